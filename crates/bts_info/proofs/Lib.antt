@@ -1,0 +1,2 @@
+pub mod WorkedBytes
+pub mod Inverse

@@ -1,0 +1,6 @@
+use Rattle.std.proofs.Common.{ap, ◌∙◌}
+use Rattle.edge_io.specs.declared.shelf.Seat.TheVariants.{A}
+use Rattle.edge_io.proofs.tests.read_a.Goals as goal
+
+pub returns : goal.returns
+returns g c = ap (λ f. f A) c.read.ensures.still_open ∙ c.requires.open

@@ -1,0 +1,10 @@
+pub mod Causes
+pub mod Entries
+pub mod FileShelf
+pub mod Known
+pub mod MemoryShelf
+pub mod MemorySink
+pub mod Places
+pub mod Seats
+pub mod Source
+pub mod StreamSink

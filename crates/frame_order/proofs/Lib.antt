@@ -1,0 +1,10 @@
+pub mod WorkedSlots
+pub mod SlotLaws
+pub mod ClockLaws
+pub mod PlaceLaws
+pub mod Sorting
+pub mod TimedLists
+pub mod Ranks
+pub mod OrderLaws
+pub mod Filling
+pub mod FrameBytes

@@ -1,0 +1,28 @@
+//! Parameters of an ISDB-T transmission: modes, guard intervals, the settings of the layers, plans of settings over
+//! the frames, and the numbers that follow from them (ARIB STD-B31 3.1).
+//!
+//! Frames, symbols, segments, slots and packets are counted from 0. No call takes memory.
+#![tactic(auto)]
+
+mod epoch;
+mod kinds;
+mod layer_setting;
+mod memory;
+mod numbers;
+mod plan;
+mod setting;
+mod used;
+
+pub use epoch::At;
+pub use kinds::{DepthCode, Guard, Layer, Mode, Modulation, Rate};
+pub use layer_setting::LayerSetting;
+pub use memory::NoMemory;
+pub use numbers::{
+    adjust_of, bits_per_cell, carriers, depth_law, depth_of, frames_over, rate_pair, slots,
+    symbol_clocks,
+};
+pub use plan::Plan;
+pub use setting::{Setting, SettingFault};
+
+#[cfg(test)]
+mod tests;

@@ -1,0 +1,108 @@
+-- The words of a command line, and which of them are a command.
+use Rattle.std.specs.Prelude.{◌≡◌, ℕ, ◌+◌, ◌<◌, ◌≤◌, Bool, true, false, Option, Some, None, List, [], ◌∷◌, ◌++◌, length, take, codes, decimal}
+use Rattle.isdbt_base.specs.declared.kinds.Mode.{Mode}
+use Rattle.isdbt_base.specs.declared.kinds.Mode.TheVariants.{M1, M2, M3}
+use Rattle.isdbt_base.specs.declared.kinds.Guard.{Guard}
+use Rattle.isdbt_base.specs.declared.kinds.Guard.TheVariants.{G4, G8, G16, G32}
+use Rattle.isdbt_base.specs.declared.kinds.Modulation.{Modulation}
+use Rattle.isdbt_base.specs.declared.kinds.Modulation.TheVariants.{Qpsk, Qam16, Qam64}
+use Rattle.isdbt_base.specs.declared.kinds.Rate.{Rate}
+use Rattle.isdbt_base.specs.declared.kinds.Rate.TheVariants.{R12, R23, R34, R56, R78}
+use Rattle.isdbt_base.specs.declared.kinds.DepthCode.TheVariants.{D0}
+use Rattle.isdbt_base.specs.LayerParameters.{LayerParameters}
+use Rattle.isdbt_base.specs.Parameters.{Parameters}
+use Rattle.isdbt_base.specs.Numbers.{time_depth}
+use Rattle.isdbt_base.specs.Plans.{Transmission, Schedule}
+
+-- a word is the bytes of its text
+abbrev pub Word : Type 0
+Word = List ℕ
+
+-- ---- how a plan is spelled
+
+abbrev pub mode_word : Mode → Word
+mode_word M1 = codes "1"
+mode_word M2 = codes "2"
+mode_word M3 = codes "3"
+
+abbrev pub guard_word : Guard → Word
+guard_word G4 = codes "1/4"
+guard_word G8 = codes "1/8"
+guard_word G16 = codes "1/16"
+guard_word G32 = codes "1/32"
+
+abbrev pub modulation_text : Modulation → Word
+modulation_text Qpsk = codes "qpsk"
+modulation_text Qam16 = codes "16qam"
+modulation_text Qam64 = codes "64qam"
+
+abbrev pub rate_text : Rate → Word
+rate_text R12 = codes "1/2"
+rate_text R23 = codes "2/3"
+rate_text R34 = codes "3/4"
+rate_text R56 = codes "5/6"
+rate_text R78 = codes "7/8"
+
+-- segments:modulation:rate:time interleaving length in symbols
+abbrev pub layer_text : Mode → LayerParameters → Word
+layer_text mode l = decimal l.segments ++ codes ":" ++ modulation_text l.modulation ++ codes ":" ++ rate_text l.rate ++ codes ":" ++ decimal (time_depth mode l.depth)
+
+abbrev pub other_layer_text : Mode → Word → Option LayerParameters → Word
+other_layer_text mode name None = []
+other_layer_text mode name (Some l) = codes "," ++ name ++ codes ":" ++ layer_text mode l
+
+abbrev pub partial_text : Bool → Word
+partial_text true = codes ":partial"
+partial_text false = []
+
+-- a setting as one word
+abbrev pub setting_word : Mode → Parameters → Word
+setting_word mode s = codes "A:" ++ layer_text mode s.a ++ partial_text s.partial ++ other_layer_text mode (codes "B") s.b ++ other_layer_text mode (codes "C") s.c
+
+-- mode, guard interval and setting
+abbrev pub transmission_words : Transmission → List Word
+transmission_words t = mode_word t.mode ∷ guard_word t.guard ∷ setting_word t.mode t.setting ∷ []
+
+-- a named input
+abbrev pub input_word : Word → Word → Word
+input_word seat name = seat ++ codes "=" ++ name
+
+-- ---- commands
+
+-- remux: a plan, and the name of layer A's input
+pub data Command : Type 0 where
+  remux : Schedule → Word → Command
+
+-- the words of a command
+unfoldable pub words_of : Command → List Word
+words_of (remux p a) = codes "remux" ∷ transmission_words p.first ++ input_word (codes "A") a ∷ []
+
+-- the plan that is accepted so far: mode 1, guard 1/4, one layer of 13 segments, QPSK, rate 1/2, no time interleaving
+abbrev pub single_layer : Schedule
+single_layer = record {
+  first = record { mode = M1; guard = G4; setting = record { partial = false; a = record { segments = 13; modulation = Qpsk; rate = R12; depth = D0 }; b = None; c = None } };
+  switches = [];
+}
+
+-- a name has at least one character
+abbrev pub IsName : Word → Type 0
+IsName name = 0 < length name
+
+abbrev pub IsCommand : Command → Type 0
+IsCommand (remux p a) = (p ≡ single_layer) × IsName a
+
+-- the words are those of an accepted command
+pub record Spells (words : List Word) (c : Command) : Type 0 where
+  pub command : IsCommand c
+  pub spelled : words ≡ words_of c
+
+-- some accepted command's words begin with these
+abbrev pub CanGoOn : List Word → Type 0
+CanGoOn words = (c : Command) × (rest : List Word) × Spells (words ++ rest) c
+
+-- words 0 to p begin no accepted list, those before p do; at the count of the words: they begin one, and are none
+pub record IsFaultAt (words : List Word) (p : ℕ) : Type 0 where
+  pub within : p ≤ length words
+  pub before : CanGoOn (take p words)
+  pub fault : p < length words → CanGoOn (take (p + 1) words) → ⊥
+  pub short : p ≡ length words → (c : Command) → Spells words c → ⊥

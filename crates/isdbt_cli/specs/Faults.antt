@@ -1,0 +1,30 @@
+-- The status of an outcome, and the answers of the cores as answers of the program.
+use Rattle.std.specs.Prelude.{ℕ}
+use Rattle.isdbt_cli.specs.declared.fault.Outcome.{Outcome}
+use Rattle.isdbt_cli.specs.declared.fault.Outcome.TheVariants.{Done, Fault}
+use Rattle.isdbt_cli.specs.declared.fault.RunFault.{RunFault}
+use Rattle.isdbt_cli.specs.declared.fault.RunFault.TheVariants as run
+use Rattle.remux_core.specs.declared.fault.RemuxFault.{RemuxFault}
+use Rattle.remux_core.specs.declared.fault.RemuxFault.TheVariants.{BadSync, Truncated, ReadFault, WriteFault, TooLong, NoMemory}
+
+abbrev pub number_of : RunFault → ℕ
+number_of (run.Usage word) = 1
+number_of (run.BadSync seat packet) = 2
+number_of (run.Truncated seat over) = 3
+number_of (run.OpenFault seat) = 10
+number_of (run.ReadFault seat) = 11
+number_of run.WriteFault = 12
+number_of run.TooLong = 13
+number_of run.NoMemory = 14
+
+abbrev pub status_of : Outcome → ℕ
+status_of (Done frames) = 0
+status_of (Fault fault) = number_of fault
+
+abbrev pub run_fault_of : RemuxFault → RunFault
+run_fault_of (BadSync seat packet) = run.BadSync seat packet
+run_fault_of (Truncated seat over) = run.Truncated seat over
+run_fault_of (ReadFault seat) = run.ReadFault seat
+run_fault_of WriteFault = run.WriteFault
+run_fault_of TooLong = run.TooLong
+run_fault_of NoMemory = run.NoMemory

@@ -1,0 +1,4 @@
+pub mod CommandLines
+pub mod Parsing
+pub mod Faults
+pub mod Run

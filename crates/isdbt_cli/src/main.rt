@@ -1,0 +1,36 @@
+//! The program `isdbt`: commands of the ISDB-T transmission chain at the shell.
+//!
+//! It writes its product to standard output and ends with the status of its [`fault::Outcome`].
+#![tactic(auto)]
+
+mod arguments;
+mod fault;
+mod run;
+#[cfg(test)]
+mod tests;
+mod words;
+
+use arguments::gather;
+use edge_io::{FileShelf, StreamSink};
+use isdbt_base::NoMemory;
+use run::run;
+use std::io;
+use std::process::ExitCode;
+use words::Words;
+
+/// The status where a word finds no memory.
+const NO_MEMORY: u8 = 14;
+
+fn main(rt: HostRuntime) -> ExitCode {
+    let alloc = rt.alloc();
+    let mut words = Words::new(alloc);
+    match gather(&rt, &mut words) {
+        Ok(()) => {}
+        Err(NoMemory) => return ExitCode::from(NO_MEMORY),
+    }
+    let mut shelf = FileShelf::new(&rt);
+    let mut out = StreamSink::new(io::writer(&rt));
+    let mut err = StreamSink::new(rt.stderr());
+    let outcome = run(alloc, &words, &mut shelf, &mut out, &mut err);
+    ExitCode::from(outcome.status())
+}

@@ -1,0 +1,16 @@
+-- A frame as it is made of the packets that were read for it.
+use Rattle.std.specs.Prelude.{ℕ, List}
+use Rattle.isdbt_base.specs.declared.kinds.Layer.{Layer}
+use Rattle.isdbt_base.specs.Parameters.{layer_of, number_of}
+use Rattle.isdbt_base.specs.Numbers.{packets_per_frame}
+use Rattle.isdbt_base.specs.Plans.{Transmission, Schedule, at_frame}
+use Rattle.frame_order.specs.OrderedFrame.{ordered_frame}
+use Rattle.remux_core.specs.Multiplex.{frame_tag}
+
+-- packets of a layer in a frame, none where it is unused
+abbrev pub packets_of : Transmission → Layer → ℕ
+packets_of t x = number_of (packets_per_frame t.mode) (layer_of t.setting x)
+
+-- frame f of a plan, which is sent so, made of packet j of each layer
+unfoldable pub frame_made : Schedule → Transmission → ℕ → (Layer → ℕ → List ℕ) → List ℕ
+frame_made p t f packet = ordered_frame t.mode t.guard t.setting (frame_tag (at_frame p f) f) packet

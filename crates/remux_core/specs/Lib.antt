@@ -1,0 +1,5 @@
+pub mod Multiplex
+pub mod Refusals
+pub mod Answers
+pub mod Parts
+pub mod Frames
