@@ -1,3 +1,4 @@
-pub mod Rows
 pub mod NumberLaws
+pub mod OptionLaws
 pub mod Products
+pub mod Rows

@@ -1,3 +1,10 @@
+pub mod Numbers
+pub mod Texts
+pub mod LayerTexts
+pub mod SettingWords
+pub mod Stuck
 pub mod Spelling
-pub mod Parsed
+pub mod OnePlace
+pub mod Rows
+pub mod NamedInputs
 pub mod Outcomes

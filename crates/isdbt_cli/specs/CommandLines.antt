@@ -1,5 +1,5 @@
 -- The words of a command line, and which of them are a command.
-use Rattle.std.specs.Prelude.{◌≡◌, ℕ, ◌+◌, ◌<◌, ◌≤◌, Bool, true, false, Option, Some, None, List, [], ◌∷◌, ◌++◌, length, take, codes, decimal}
+use Rattle.std.specs.Prelude.{◌≡◌, ℕ, ◌+◌, ◌<◌, ◌≤◌, Bool, true, false, Option, Some, None, is_some, List, [], ◌∷◌, ◌++◌, length, take, codes, decimal}
 use Rattle.isdbt_base.specs.declared.kinds.Mode.{Mode}
 use Rattle.isdbt_base.specs.declared.kinds.Mode.TheVariants.{M1, M2, M3}
 use Rattle.isdbt_base.specs.declared.kinds.Guard.{Guard}
@@ -8,11 +8,11 @@ use Rattle.isdbt_base.specs.declared.kinds.Modulation.{Modulation}
 use Rattle.isdbt_base.specs.declared.kinds.Modulation.TheVariants.{Qpsk, Qam16, Qam64}
 use Rattle.isdbt_base.specs.declared.kinds.Rate.{Rate}
 use Rattle.isdbt_base.specs.declared.kinds.Rate.TheVariants.{R12, R23, R34, R56, R78}
-use Rattle.isdbt_base.specs.declared.kinds.DepthCode.TheVariants.{D0}
+use Rattle.isdbt_base.specs.declared.kinds.DepthCode.{DepthCode}
 use Rattle.isdbt_base.specs.LayerParameters.{LayerParameters}
 use Rattle.isdbt_base.specs.Parameters.{Parameters}
 use Rattle.isdbt_base.specs.Numbers.{time_depth}
-use Rattle.isdbt_base.specs.Plans.{Transmission, Schedule}
+use Rattle.isdbt_base.specs.Plans.{Transmission, Schedule, IsPlan}
 
 -- a word is the bytes of its text
 abbrev pub Word : Type 0
@@ -43,9 +43,13 @@ rate_text R34 = codes "3/4"
 rate_text R56 = codes "5/6"
 rate_text R78 = codes "7/8"
 
--- segments:modulation:rate:time interleaving length in symbols
+-- time interleaving length in symbols
+abbrev pub depth_text : Mode → DepthCode → Word
+depth_text mode d = decimal (time_depth mode d)
+
+-- segments:modulation:rate:time interleaving length
 abbrev pub layer_text : Mode → LayerParameters → Word
-layer_text mode l = decimal l.segments ++ codes ":" ++ modulation_text l.modulation ++ codes ":" ++ rate_text l.rate ++ codes ":" ++ decimal (time_depth mode l.depth)
+layer_text mode l = decimal l.segments ++ codes ":" ++ modulation_text l.modulation ++ codes ":" ++ rate_text l.rate ++ codes ":" ++ depth_text mode l.depth
 
 abbrev pub other_layer_text : Mode → Word → Option LayerParameters → Word
 other_layer_text mode name None = []
@@ -63,33 +67,53 @@ setting_word mode s = codes "A:" ++ layer_text mode s.a ++ partial_text s.partia
 abbrev pub transmission_words : Transmission → List Word
 transmission_words t = mode_word t.mode ∷ guard_word t.guard ∷ setting_word t.mode t.setting ∷ []
 
--- a named input
+-- a plan with no switch
+abbrev pub plan_words : Schedule → List Word
+plan_words p = transmission_words p.first
+
+-- ---- how inputs are named
+
 abbrev pub input_word : Word → Word → Word
 input_word seat name = seat ++ codes "=" ++ name
 
--- ---- commands
-
--- remux: a plan, and the name of layer A's input
-pub data Command : Type 0 where
-  remux : Schedule → Word → Command
-
--- the words of a command
-unfoldable pub words_of : Command → List Word
-words_of (remux p a) = codes "remux" ∷ transmission_words p.first ++ input_word (codes "A") a ∷ []
-
--- the plan that is accepted so far: mode 1, guard 1/4, one layer of 13 segments, QPSK, rate 1/2, no time interleaving
-abbrev pub single_layer : Schedule
-single_layer = record {
-  first = record { mode = M1; guard = G4; setting = record { partial = false; a = record { segments = 13; modulation = Qpsk; rate = R12; depth = D0 }; b = None; c = None } };
-  switches = [];
-}
+abbrev pub other_input_words : Word → Option Word → List Word
+other_input_words seat None = []
+other_input_words seat (Some name) = input_word seat name ∷ []
 
 -- a name has at least one character
 abbrev pub IsName : Word → Type 0
 IsName name = 0 < length name
 
+abbrev pub IsNameIfGiven : Option Word → Type 0
+IsNameIfGiven None = Unit {0}
+IsNameIfGiven (Some name) = IsName name
+
+-- ---- commands
+
+-- remux: a plan, and the names of the inputs of layers A, B and C
+pub data Command : Type 0 where
+  remux : Schedule → Word → Option Word → Option Word → Command
+
+-- the words of a command
+unfoldable pub words_of : Command → List Word
+words_of (remux p a b c) = codes "remux" ∷ plan_words p ++ input_word (codes "A") a ∷ other_input_words (codes "B") b ++ other_input_words (codes "C") c
+
+-- the plan is accepted and has no switch
+pub record IsSteady (p : Schedule) : Type 0 where
+  pub accepted : IsPlan p
+  pub no_switch : p.switches ≡ []
+
+-- the plan is one that can be spelled, and exactly its layers' inputs are named
+pub record IsRemux (p : Schedule) (a : Word) (b c : Option Word) : Type 0 where
+  pub plan : IsSteady p
+  pub a_name : IsName a
+  pub b_name : IsNameIfGiven b
+  pub c_name : IsNameIfGiven c
+  pub b_used : is_some b ≡ is_some p.first.setting.b
+  pub c_used : is_some c ≡ is_some p.first.setting.c
+
 abbrev pub IsCommand : Command → Type 0
-IsCommand (remux p a) = (p ≡ single_layer) × IsName a
+IsCommand (remux p a b c) = IsRemux p a b c
 
 -- the words are those of an accepted command
 pub record Spells (words : List Word) (c : Command) : Type 0 where

@@ -1,23 +1,75 @@
--- The words of the one command, place by place.
-use Rattle.std.specs.Prelude.{ℕ, ◌+◌, ◌==◌, nat_lt, ◌&&◌, Bool, false, List, [], ◌∷◌, None, Some, length, take, drop, codes, if◌then◌else◌}
-use Rattle.std.specs.declared.option.Option.{Option}
-use Rattle.std.specs.Str.{bytes_eq}
+-- How words are read: the parts of a text, and the words that are left.
+use Rattle.std.specs.Prelude.{◌≡◌, ◌≢◌, ℕ, ◌+◌, EachIndex, slice_index, Option, Some, None, option_map, List, [], ◌∷◌, ◌++◌, length, take, codes}
+use Rattle.std.specs.Borrow.{Bor}
+use Rattle.isdbt_base.specs.declared.kinds.Mode.{Mode}
+use Rattle.isdbt_base.specs.LayerParameters.{LayerParameters}
+use Rattle.isdbt_base.specs.Parameters.{HasSegmentsIfUsed, HasNoGap}
+use Rattle.isdbt_cli.specs.declared.command.Command.{Command as Parsed}
+use Rattle.isdbt_cli.specs.declared.command.Command.TheVariants.{Remux}
+use Rattle.isdbt_cli.specs.CommandLines.{Word, other_layer_text, Command, remux, Spells}
 
--- whether a word may stand at this place
-abbrev pub fits : ℕ → List ℕ → Bool
-fits place word =
-    if place == 0 then bytes_eq word (codes "remux") else
-    if place == 1 then bytes_eq word (codes "1") else
-    if place == 2 then bytes_eq word (codes "1/4") else
-    if place == 3 then bytes_eq word (codes "A:13:qpsk:1/2:0") else
-    if place == 4 then bytes_eq (codes "A=") (take 2 word) && nat_lt 2 (length word) else false
+-- ---- the parts of a text
 
--- the first place, from this one on, at which a word doesn't fit, or is missing or too many
-abbrev pub misfit : ℕ → List (List ℕ) → Option ℕ
-misfit place [] = if place == 5 then None else Some place
-misfit place (word ∷ words) = if fits place word then misfit (place + 1) words else Some place
+abbrev pub comma : ℕ
+comma = 44
 
--- the name of the input
-abbrev pub name_of : List (List ℕ) → List ℕ
-name_of (command ∷ mode ∷ guard ∷ plan ∷ input ∷ rest) = drop 2 input
-name_of words = []
+-- no byte of the text is this one
+abbrev pub Lacks : ℕ → Word → Type 0
+Lacks byte text = EachIndex text (λ i. slice_index text i ≢ byte)
+
+-- a comma and what stands behind it, if there is one
+abbrev pub behind_comma : Option (Bor Word) → Word
+behind_comma None = []
+behind_comma (Some text) = codes "," ++ text.now
+
+-- layers B and C as they stand behind layer A
+abbrev pub other_layers_text : Mode → Option LayerParameters → Option LayerParameters → Word
+other_layers_text mode b c = other_layer_text mode (codes "B") b ++ other_layer_text mode (codes "C") c
+
+-- layers B and C may be so
+pub record AreOthers (b c : Option LayerParameters) : Type 0 where
+  pub b_segments : HasSegmentsIfUsed b
+  pub c_segments : HasSegmentsIfUsed c
+  pub no_gap : HasNoGap b c
+
+-- ---- the words that are left
+
+-- words still to be read, and the place of the first of them
+pub record Unread : Type 0 where
+  pub place : ℕ
+  pub words : List Word
+
+-- these words were read
+pub record Reads (read : List Word) (old new : Unread) : Type 0 where
+  pub split : old.words ≡ read ++ new.words
+  pub place : new.place ≡ old.place + length read
+
+-- words that begin with the text of a valid value, whatever follows
+abbrev pub BeginsWith : {X : Type 0} → (X → Type 0) → (X → List Word) → List Word → Type 0
+BeginsWith {X} Valid text words = (x : X) × Valid x × (rest : List Word) × (words ≡ text x ++ rest)
+
+-- some list of the language begins with the words before this place, and none with those and the next word, or the end
+pub record IsStuck (Language : List Word → Type 0) (unread : Unread) (place : ℕ) : Type 0 where
+  pub front : List Word
+  pub rest : List Word
+  pub split : unread.words ≡ front ++ rest
+  pub place_is : place ≡ unread.place + length front
+  pub goes_on : (tail : List Word) × Language (front ++ tail)
+  pub stuck : (tail : List Word) → Language (front ++ tail) → take 1 tail ≡ take 1 rest → ⊥
+
+-- any value
+abbrev pub IsAny : {X : Type 0} → X → Type 0
+IsAny x = Unit {0}
+
+-- words that follow the first word of a command
+abbrev pub Follows : Word → List Word → Type 0
+Follows first words = (c : Command) × Spells (first ∷ words) c
+
+-- the command that the program's value stands for
+abbrev pub command_of : Parsed → Command
+command_of (Remux plan a b c) = remux plan a.now (option_map (λ x. x.now) b) (option_map (λ x. x.now) c)
+
+-- a named input, if it is given: the seat's text and the name
+abbrev pub named : Word → Option Word → List Word
+named seat None = []
+named seat (Some name) = (seat ++ name) ∷ []

@@ -1,46 +1,87 @@
 -- What an answer of the program says.
-use Rattle.std.specs.Prelude.{◌≡◌, ℕ, List, Some}
+use Rattle.std.specs.Prelude.{◌≡◌, ℕ, List, [], Bool, true, None, Some}
 use Rattle.std.specs.declared.option.Option.{Option}
 use Rattle.isdbt_base.specs.declared.kinds.Layer.{Layer}
 use Rattle.isdbt_base.specs.declared.kinds.Layer.TheVariants as layers
 use Rattle.isdbt_base.specs.Plans.{Schedule}
-use Rattle.edge_io.specs.declared.shelf.Seat.TheVariants.{A}
+use Rattle.edge_io.specs.declared.shelf.Seat.{Seat}
 use Rattle.edge_io.specs.Causes.{Rose, Cause, Opening, Reading}
 use Rattle.remux_core.specs.declared.fault.RemuxFault.TheVariants as core
-use Rattle.remux_core.specs.Answers.{Finished, Refused, ReadFailed, WriteFailed}
+use Rattle.remux_core.specs.Refusals.{seat_of}
+use Rattle.remux_core.specs.Answers.{IsUsed, Tells, Finished, Refused, ReadFailed, WriteFailed}
 use Rattle.isdbt_cli.specs.declared.fault.Outcome.{Outcome}
 use Rattle.isdbt_cli.specs.declared.fault.Outcome.TheVariants.{Done, Fault}
 use Rattle.isdbt_cli.specs.declared.fault.RunFault.TheVariants.{Usage, BadSync, Truncated, OpenFault, ReadFault, WriteFault, TooLong, NoMemory}
-use Rattle.isdbt_cli.specs.CommandLines.{Word, remux, single_layer, Spells, IsFaultAt}
+use Rattle.isdbt_cli.specs.CommandLines.{Word, Command, remux, Spells, IsFaultAt}
 
 -- the most frames of a command
 abbrev pub frame_limit : ℕ
 frame_limit = 16777216
 
--- what each answer to a command says, by its plan and inputs, what was written before and after, and what layer A has left
-abbrev pub RunAnswer : Schedule → (Layer → List ℕ) → Option (List ℕ) → Option (List ℕ) → Option (List ℕ) → Outcome → Type 0
+-- ---- inputs
+
+-- the names of the layers' inputs, where they are given
+abbrev pub Names : Type 0
+Names = Layer → Option Word
+
+abbrev pub names_of : Word → Option Word → Option Word → Names
+names_of a b c layers.A = Some a
+names_of a b c layers.B = b
+names_of a b c layers.C = c
+
+-- the named inputs hold these bytes, and a layer without a name has none
+pub record Hold (holds : Word → Option (List ℕ)) (name : Names) (input : Layer → List ℕ) : Type 0 where
+  pub named : (x : Layer) (n : Word) → name x ≡ Some n → holds n ≡ Some (input x)
+  pub others : (x : Layer) → name x ≡ None → input x ≡ []
+
+-- each layer with a name has its seat open, with what the name holds
+pub record AreOpened (name : Names) (holds : Word → Option (List ℕ)) (left : Seat → Option (List ℕ)) (is_open : Seat → Bool) : Type 0 where
+  pub opened : (x : Layer) (n : Word) → name x ≡ Some n → is_open (seat_of x) ≡ true
+  pub content : (x : Layer) (n : Word) → name x ≡ Some n → left (seat_of x) ≡ holds n
+
+-- ---- answers
+
+-- what each answer to a command says, by its plan and inputs, what was written before and after, and what the seats have left
+abbrev pub RunAnswer : Schedule → (Layer → List ℕ) → Option (List ℕ) → Option (List ℕ) → (Seat → Option (List ℕ)) → Outcome → Type 0
 RunAnswer p input before after left (Done m) = Finished p input frame_limit m before after left
 RunAnswer p input before after left (Fault (Usage word)) = ⊥
 RunAnswer p input before after left (Fault (BadSync seat packet)) = Refused p input frame_limit (core.BadSync seat packet) before after
 RunAnswer p input before after left (Fault (Truncated seat over)) = Refused p input frame_limit (core.Truncated seat over) before after
 RunAnswer p input before after left (Fault (OpenFault seat)) = after ≡ before
-RunAnswer p input before after left (Fault (ReadFault seat)) = ReadFailed p input frame_limit before after left
+RunAnswer p input before after left (Fault (ReadFault seat)) = ReadFailed p input frame_limit before after left seat
 RunAnswer p input before after left (Fault WriteFault) = WriteFailed p input frame_limit before after left
 RunAnswer p input before after left (Fault TooLong) = Refused p input frame_limit core.TooLong before after
-RunAnswer p input before after left (Fault NoMemory) = (after ≡ before) × (left ≡ Some (input layers.A))
+RunAnswer p input before after left (Fault NoMemory) = (after ≡ before) × Tells p left input
 
--- when each answer to a command may come, by the name of its input
-abbrev pub CommandCause : Word → (Cause → ℕ) → (Cause → ℕ) → ℕ → ℕ → Outcome → Type 0
-CommandCause name shelf shelf' sink sink' (Fault (Usage word)) = ⊥
-CommandCause name shelf shelf' sink sink' (Fault (OpenFault seat)) = (seat ≡ A) × Rose (shelf (Opening A name)) (shelf' (Opening A name)) × (sink' ≡ sink)
-CommandCause name shelf shelf' sink sink' (Fault (ReadFault seat)) = (seat ≡ A) × Rose (shelf (Reading A)) (shelf' (Reading A)) × (sink' ≡ sink)
-CommandCause name shelf shelf' sink sink' (Fault WriteFault) = (shelf' ≡ shelf) × Rose sink sink'
-CommandCause name shelf shelf' sink sink' outcome = (shelf' ≡ shelf) × (sink' ≡ sink)
+-- what an answer to a command says, whatever its inputs hold
+abbrev pub AnswerOf : Command → (Word → Option (List ℕ)) → Option (List ℕ) → Option (List ℕ) → (Seat → Option (List ℕ)) → Outcome → Type 0
+AnswerOf (remux p a b c) holds before after left outcome = (input : Layer → List ℕ) → Hold holds (names_of a b c) input → RunAnswer p input before after left outcome
+
+-- ---- causes
+
+-- a count rose of opening a named input at its layer's seat
+pub record OpenFailed (name : Names) (shelf shelf' : Cause → ℕ) (seat : Seat) : Type 0 where
+  pub layer : Layer
+  pub word : Word
+  pub name_is : name layer ≡ Some word
+  pub seat_is : seat ≡ seat_of layer
+  pub rose : Rose (shelf (Opening seat word)) (shelf' (Opening seat word))
+
+-- when each answer to a command may come, by its plan and the names of its inputs
+abbrev pub CommandCause : Schedule → Names → (Cause → ℕ) → (Cause → ℕ) → ℕ → ℕ → Outcome → Type 0
+CommandCause p name shelf shelf' sink sink' (Fault (Usage word)) = ⊥
+CommandCause p name shelf shelf' sink sink' (Fault (OpenFault seat)) = OpenFailed name shelf shelf' seat × (sink' ≡ sink)
+CommandCause p name shelf shelf' sink sink' (Fault (ReadFault seat)) = ((x : Layer) × IsUsed p x × (seat ≡ seat_of x)) × Rose (shelf (Reading seat)) (shelf' (Reading seat)) × (sink' ≡ sink)
+CommandCause p name shelf shelf' sink sink' (Fault WriteFault) = (shelf' ≡ shelf) × Rose sink sink'
+CommandCause p name shelf shelf' sink sink' outcome = (shelf' ≡ shelf) × (sink' ≡ sink)
+
+abbrev pub CauseOf : Command → (Cause → ℕ) → (Cause → ℕ) → ℕ → ℕ → Outcome → Type 0
+CauseOf (remux p a b c) shelf shelf' sink sink' outcome = CommandCause p (names_of a b c) shelf shelf' sink sink' outcome
 
 -- usage comes where the words have a fault, and each other answer where they are a command and it may come
 abbrev pub RunCause : List Word → (Cause → ℕ) → (Cause → ℕ) → ℕ → ℕ → Outcome → Type 0
 RunCause words shelf shelf' sink sink' (Fault (Usage word)) = IsFaultAt words word × (shelf' ≡ shelf) × (sink' ≡ sink)
-RunCause words shelf shelf' sink sink' outcome = (name : Word) × Spells words (remux single_layer name) × CommandCause name shelf shelf' sink sink' outcome
+RunCause words shelf shelf' sink sink' outcome = (c : Command) × Spells words c × CauseOf c shelf shelf' sink sink' outcome
 
 -- the answers that no input and no fault of the outside explains
 abbrev pub IsFree : Outcome → Type 0
@@ -50,7 +91,7 @@ IsFree (Fault NoMemory) = Unit {0}
 IsFree (Fault fault) = ⊥
 
 -- no count of the outside rose
-pub record NothingRose (name : Word) (shelf shelf' : Cause → ℕ) (sink sink' : ℕ) : Type 0 where
-  pub opened : Rose (shelf (Opening A name)) (shelf' (Opening A name)) → ⊥
-  pub read : Rose (shelf (Reading A)) (shelf' (Reading A)) → ⊥
+pub record NothingRose (name : Names) (shelf shelf' : Cause → ℕ) (sink sink' : ℕ) : Type 0 where
+  pub opened : (x : Layer) (n : Word) → name x ≡ Some n → Rose (shelf (Opening (seat_of x) n)) (shelf' (Opening (seat_of x) n)) → ⊥
+  pub read : (x : Layer) → Rose (shelf (Reading (seat_of x))) (shelf' (Reading (seat_of x))) → ⊥
   pub wrote : Rose sink sink' → ⊥

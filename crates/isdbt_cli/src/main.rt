@@ -4,11 +4,24 @@
 #![tactic(auto)]
 
 mod arguments;
+mod command;
+mod cursor;
 mod fault;
+mod fields;
+mod grammar;
+mod inputs;
+#[cfg(test)]
+mod layers_tests;
+mod lines;
 mod run;
+mod setting_word;
+#[cfg(test)]
+mod testing;
 #[cfg(test)]
 mod tests;
 mod words;
+#[cfg(test)]
+mod words_tests;
 
 use arguments::gather;
 use edge_io::{FileShelf, StreamSink};

@@ -1,52 +1,74 @@
 //! The top call.
 
-ghost use Rattle.std.specs.Prelude.{◌≡◌, ℕ, List, ◌↔◌, false, IfSome};
-ghost use Rattle.edge_io.specs.declared.shelf.Seat.{Seat as Place};
-ghost use Rattle.edge_io.specs.declared.shelf.Seat.TheVariants.{A};
+ghost use Rattle.std.specs.Prelude.{◌≡◌, ℕ, List, ◌↔◌, false, option_map};
+ghost use Rattle.std.specs.declared.option.Option.{Option as Maybe};
+ghost use Rattle.isdbt_base.specs.declared.kinds.Layer.{Layer as Which};
 ghost use Rattle.isdbt_base.specs.Plans.{Schedule};
-ghost use Rattle.remux_core.specs.Answers.{only_a};
+ghost use Rattle.edge_io.specs.declared.shelf.Seat.{Seat as Place};
 ghost use Rattle.remux_core.specs.Parts.{IsGood};
-ghost use Rattle.isdbt_cli.specs.CommandLines.{remux, single_layer, Spells, IsFaultAt};
-ghost use Rattle.isdbt_cli.specs.Run.{RunAnswer, RunCause, CommandCause, NothingRose, IsFree};
+ghost use Rattle.isdbt_cli.specs.CommandLines.{Word, remux, IsRemux, IsCommand, Spells, IsFaultAt};
+ghost use Rattle.isdbt_cli.specs.Lines.{line_of, IsTold};
+ghost use Rattle.isdbt_cli.specs.Parsing.{command_of};
+ghost use Rattle.isdbt_cli.specs.Run.{names_of, Hold, RunAnswer, AnswerOf, CommandCause, CauseOf, RunCause, NothingRose, IsFree};
 
+use crate::command::Command;
 use crate::fault::{Outcome, RunFault};
+use crate::inputs::open_inputs;
+use crate::lines::tell;
 use crate::words::Words;
-use edge_io::{Failed, Seat, Shelf, Sink};
-use isdbt_base::{DepthCode, Guard, LayerSetting, Mode, Modulation, Plan, Rate, Setting};
+use edge_io::{Shelf, Sink};
+use isdbt_base::Plan;
 use remux_core::remux;
 use std::alloc::Global;
 
 /// The most frames of a command.
 const FRAMES: u32 = 16_777_216;
 
-/// Mode 1, guard 1/4, one layer of 13 segments, QPSK, rate 1/2, no time interleaving.
-fn single_layer() -> Plan
-    ensures { result ≡ single_layer }
+/// Remultiplexes the inputs of these names.
+fn run_remux<H: Shelf, K: Sink>(
+    alloc: Global,
+    plan: &Plan,
+    a: &str,
+    b: Option<&str>,
+    c: Option<&str>,
+    shelf: &mut H,
+    out: &mut K,
+) -> Outcome
+    requires accepted { IsRemux plan.now a.now (option_map (λ x. x.now) b) (option_map (λ x. x.now) c) }
+    requires closed { (seat : Place) → H.is_open shelf.old seat ≡ false }
+    ensures answer { (input : Which → List ℕ) → Hold (H.holds shelf.old) (names_of a.now (option_map (λ x. x.now) b.entry) (option_map (λ x. x.now) c.entry)) input
+        → RunAnswer plan.now input (K.written out.old) (K.written out.new) (H.left shelf.new) result }
+    ensures cause { CommandCause plan.now (names_of a.now (option_map (λ x. x.now) b.entry) (option_map (λ x. x.now) c.entry)) (H.faults shelf.old) (H.faults shelf.new) (K.faults out.old) (K.faults out.new) result }
 {
-    let a = LayerSetting::new(13, Modulation::Qpsk, Rate::R12, DepthCode::D0).unwrap();
-    let setting = Setting::new(false, a, None, None).unwrap();
-    Plan::new(Mode::M1, Guard::G4, setting)
-}
-
-/// Remultiplexes the input of a name.
-fn run_remux<H: Shelf, K: Sink>(alloc: Global, name: &str, shelf: &mut H, out: &mut K) -> Outcome
-    requires { (seat : Place) → H.is_open shelf.old seat ≡ false }
-    ensures answer { IfSome (H.holds shelf.old name.now) (λ bytes.
-        RunAnswer single_layer (only_a bytes) (K.written out.old) (K.written out.new) (H.left shelf.new A) result) }
-    ensures cause { CommandCause name.now (H.faults shelf.old) (H.faults shelf.new) (K.faults out.old) (K.faults out.new) result }
-{
-    match shelf.open(Seat::A, name) {
+    match open_inputs(a, b, c, shelf) {
         Ok(()) => {}
-        Err(Failed) => return Outcome::Fault(RunFault::OpenFault(Seat::A)),
+        Err(seat) => return Outcome::Fault(RunFault::OpenFault(seat)),
     }
-    match remux(alloc, &single_layer(), FRAMES, shelf, out) {
+    match remux(alloc, plan, FRAMES, shelf, out) {
         Ok(frames) => Outcome::Done(frames),
         Err(fault) => Outcome::Fault(RunFault::from(fault)),
     }
 }
 
-/// Does what the words say: opens the input that they name, writes the command's product to `out`, and answers how it
-/// ended. Nothing is written to `err` yet.
+/// Does what a command says.
+fn run_command<H: Shelf, K: Sink>(
+    alloc: Global,
+    command: Command<'_>,
+    shelf: &mut H,
+    out: &mut K,
+) -> Outcome
+    requires accepted { IsCommand (command_of command) }
+    requires closed { (seat : Place) → H.is_open shelf.old seat ≡ false }
+    ensures answer { AnswerOf (command_of command.entry) (H.holds shelf.old) (K.written out.old) (K.written out.new) (H.left shelf.new) result }
+    ensures cause { CauseOf (command_of command.entry) (H.faults shelf.old) (H.faults shelf.new) (K.faults out.old) (K.faults out.new) result }
+{
+    match command {
+        Command::Remux { plan, a, b, c } => run_remux(alloc, &plan, a, b, c, shelf, out),
+    }
+}
+
+/// Does what the words say: opens the inputs that they name, writes the command's product to `out`, and answers how it
+/// ended. A fault's line goes to `err`.
 pub fn run<H: Shelf, K: Sink, E: Sink>(
     alloc: Global,
     words: &Words,
@@ -59,23 +81,34 @@ pub fn run<H: Shelf, K: Sink, E: Sink>(
     // Usage comes exactly where the words aren't a command, with the place of their fault; then nothing is touched.
     ensures usage { (word : ℕ) → (result ≡ Outcome.Fault (RunFault.Usage word)) ↔ IsFaultAt words.now word }
     ensures untouched { (word : ℕ) → result ≡ Outcome.Fault (RunFault.Usage word) → (shelf.new ≡ shelf.old) × (out.new ≡ out.old) }
-    ensures quiet { err.new ≡ err.old }
 
-    // What the answer says of the input and of what was written.
-    ensures answer { (p : Schedule) (name : List ℕ) → Spells words.now (remux p name) → IfSome (H.holds shelf.old name) (λ bytes.
-        RunAnswer p (only_a bytes) (K.written out.old) (K.written out.new) (H.left shelf.new A) result) }
+    // Nothing but a fault's line, or a front part of it where a write of it failed, is written to `err`.
+    ensures line { IsTold (line_of result) (E.written err.old) (E.written err.new) (E.faults err.old) (E.faults err.new) }
+
+    // What the answer says of the inputs and of what was written.
+    ensures answer { (p : Schedule) (a : Word) (b c : Maybe Word) (input : Which → List ℕ) → Spells words.now (remux p a b c)
+        → Hold (H.holds shelf.old) (names_of a b c) input
+        → RunAnswer p input (K.written out.old) (K.written out.new) (H.left shelf.new) result }
 
     // A fault of the outside is answered only where its count rose, and another answer only where none rose.
     ensures cause { RunCause words.now (H.faults shelf.old) (H.faults shelf.new) (K.faults out.old) (K.faults out.new) result }
 
     // Good packets and no fault of the outside: all frames, or too many, or no memory.
-    ensures complete { (p : Schedule) (name : List ℕ) → Spells words.now (remux p name)
-        → NothingRose name (H.faults shelf.old) (H.faults shelf.new) (K.faults out.old) (K.faults out.new)
-        → IfSome (H.holds shelf.old name) (λ bytes. IsGood bytes → IsFree result) }
+    ensures complete { (p : Schedule) (a : Word) (b c : Maybe Word) (input : Which → List ℕ) → Spells words.now (remux p a b c)
+        → Hold (H.holds shelf.old) (names_of a b c) input
+        → NothingRose (names_of a b c) (H.faults shelf.old) (H.faults shelf.new) (K.faults out.old) (K.faults out.new)
+        → ((x : Which) → IsGood (input x)) → IsFree result }
 {
-    let _quiet = &err;
-    match words.input_name() {
-        Ok(name) => run_remux(alloc, name, shelf, out),
-        Err(word) => Outcome::Fault(RunFault::Usage { word }),
+    match words.command() {
+        Ok(command) => {
+            let outcome = run_command(alloc, command, shelf, out);
+            tell(&outcome, err);
+            outcome
+        }
+        Err(word) => {
+            let outcome = Outcome::Fault(RunFault::Usage { word });
+            tell(&outcome, err);
+            outcome
+        }
     }
 }

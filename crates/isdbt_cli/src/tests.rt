@@ -5,8 +5,9 @@ ghost use Rattle.edge_io.specs.declared.shelf.Seat.{Seat as Place};
 ghost use Rattle.edge_io.specs.MemoryShelf.{is_seat_open};
 
 use crate::fault::{Outcome, RunFault};
+use crate::lines::tell;
 use crate::run::run;
-use crate::words::Words;
+use crate::testing::{marked_packets, words_of};
 use edge_io::{FileShelf, MemoryShelf, MemorySink, Seat};
 use std::alloc::Global;
 use std::fs;
@@ -21,28 +22,9 @@ const FRAME: usize = 261_120;
 /// Room for six frames.
 const ROOM: usize = 6 * FRAME;
 
-fn words_of(alloc: Global, list: &[&str]) -> Result<Words, Fail> {
-    let mut words = Words::new(alloc);
-    for word in list {
-        words.push(word)?;
-    }
-    Ok(words)
-}
-
-/// Packets that begin with the sync byte and are numbered by the next two, cut or drawn out to `len` bytes.
+/// Packets of layer A.
 fn packets(alloc: Global, len: usize) -> Result<Vec<u8>, Fail> {
-    let mut bytes = Vec::new(alloc);
-    for at in 0..len {
-        let packet = at / 188;
-        let byte = match at % 188 {
-            0 => 0x47,
-            1 => packet / 256 % 256,
-            2 => packet % 256,
-            _ => 0x55,
-        };
-        bytes.push((byte % 256) as u8)?;
-    }
-    Ok(bytes)
+    marked_packets(alloc, len, 0x55)
 }
 
 /// A shelf at which `a` holds the input.
@@ -106,7 +88,7 @@ fn usage_at_word_three(rt: HostRuntime) -> Result<(), Fail> {
         (&["REMUX", "1", "1/4", "A:13:qpsk:1/2:0", "A=a"], 0),
         (&["code", "1", "1/4", "A:13:qpsk:1/2:0", "IN=a"], 0),
         (&["remux", "01", "1/4", "A:13:qpsk:1/2:0", "A=a"], 1),
-        (&["remux", "1", "1/8", "A:13:qpsk:1/2:0", "A=a"], 2),
+        (&["remux", "1", "1/3", "A:13:qpsk:1/2:0", "A=a"], 2),
         (&["remux", "1", "1/4", "A:13:qpsk:1/2:0"], 4),
         (&["remux", "1", "1/4", "A:13:qpsk:1/2:0", "A="], 4),
         (&["remux", "1", "1/4", "A:13:qpsk:1/2:0", "a=a"], 4),
@@ -124,7 +106,56 @@ fn usage_at_word_three(rt: HostRuntime) -> Result<(), Fail> {
         assert_eq!(rt; outcome, Outcome::Fault(RunFault::Usage { word }));
         assert_eq!(rt; outcome.status(), 1);
         assert_eq!(rt; out.bytes().len(), 0);
+        assert!(rt; err.bytes().starts_with(b"isdbt: 1 usage: word "));
     }
+    Ok(())
+}
+
+#[test]
+fn fault_lines(rt: HostRuntime) -> Result<(), Fail> {
+    let alloc = rt.alloc();
+    let seat = Seat::B;
+    let bad = RunFault::BadSync {
+        seat,
+        packet: 18_446_744_073_709_551_615,
+    };
+    let rows = [
+        (Outcome::Done(5), ""),
+        (
+            Outcome::Fault(RunFault::Usage { word: 3 }),
+            "isdbt: 1 usage: word 3\n",
+        ),
+        (
+            Outcome::Fault(bad),
+            "isdbt: 2 no sync byte: input B packet 18446744073709551615\n",
+        ),
+        (
+            Outcome::Fault(RunFault::Truncated { seat, over: 187 }),
+            "isdbt: 3 truncated: input B over 187\n",
+        ),
+        (
+            Outcome::Fault(RunFault::OpenFault(Seat::A)),
+            "isdbt: 10 cannot open: A\n",
+        ),
+        (
+            Outcome::Fault(RunFault::ReadFault(Seat::C)),
+            "isdbt: 11 read fault: C\n",
+        ),
+        (
+            Outcome::Fault(RunFault::WriteFault),
+            "isdbt: 12 write fault\n",
+        ),
+        (Outcome::Fault(RunFault::TooLong), "isdbt: 13 too long\n"),
+        (Outcome::Fault(RunFault::NoMemory), "isdbt: 14 no memory\n"),
+    ];
+    for (outcome, line) in rows {
+        let mut err = MemorySink::new(alloc, 100)?;
+        tell(&outcome, &mut err);
+        assert!(rt; err.bytes() == line.as_bytes());
+    }
+    let mut full = MemorySink::new(alloc, 10)?;
+    tell(&Outcome::Fault(RunFault::NoMemory), &mut full);
+    assert!(rt; full.bytes() == b"isdbt: 14 ".as_slice());
     Ok(())
 }
 

@@ -1,9 +1,11 @@
 //! The words of a command line.
 
-ghost use Rattle.std.specs.Prelude.{◌≡◌, ◌++◌, ◌∷◌, [], map, string_bytes, OnOk, OnErr, MatchResult, None, Some};
-ghost use Rattle.isdbt_cli.specs.CommandLines.{remux, single_layer, Spells, IsFaultAt};
-ghost use Rattle.isdbt_cli.specs.Parsing.{fits, misfit, name_of};
+ghost use Rattle.std.specs.Prelude.{◌≡◌, ◌++◌, ◌∷◌, [], OnOk, OnErr, MatchResult};
+ghost use Rattle.isdbt_cli.specs.CommandLines.{Spells, IsFaultAt};
+ghost use Rattle.isdbt_cli.specs.Parsing.{command_of};
 
+use crate::command::Command;
+use crate::grammar::any_command;
 use isdbt_base::NoMemory;
 use std::alloc::Global;
 use std::marker::Model;
@@ -48,49 +50,11 @@ impl Words {
         }
     }
 
-    /// The name of the input where the words are a command. Else the place of their fault: the least place such that no
-    /// command begins with the words up to it, or the count of the words where a command begins with all of them.
-    pub fn input_name(&self) -> Result<&str, u64>
-        ensures { MatchResult result
-            (λ name. Spells self.now (remux single_layer name.now))
-            (λ place. IsFaultAt self.now place) }
+    /// The command that the words spell. Else the place of their fault: the least place such that no command begins with
+    /// the words up to it, or the count of the words where a command begins with all of them.
+    pub fn command(&self) -> Result<Command<'_>, u64>
+        ensures { MatchResult result (λ c. Spells self.now (command_of c)) (λ place. IsFaultAt self.now place) }
     {
-        input_name(&self.list)
-    }
-}
-
-/// Whether a word may stand at a place.
-fn word_fits(place: u64, word: &str) -> bool
-    ensures { result ≡ fits place word.now }
-{
-    match place {
-        0 => word == "remux",
-        1 => word == "1",
-        2 => word == "1/4",
-        3 => word == "A:13:qpsk:1/2:0",
-        4 => word.starts_with("A=") && word.len() > 2,
-        _ => false,
-    }
-}
-
-fn input_name(list: &Vec<String>) -> Result<&str, u64>
-    ensures { MatchResult result
-        (λ name. (misfit 0 (map string_bytes list.now.items) ≡ None)
-        × (name.now ≡ name_of (map string_bytes list.now.items)))
-        (λ place. misfit 0 (map string_bytes list.now.items) ≡ Some place) }
-{
-    let mut place = 0u64;
-    for word in list {
-        if !word_fits(place, word.as_str()) {
-            return Err(place);
-        }
-        place += 1;
-    }
-    if place != 5 {
-        return Err(place);
-    }
-    match list[4].as_str().strip_prefix("A=") {
-        Some(name) => Ok(name),
-        None => Err(4),
+        any_command(&self.list)
     }
 }

@@ -1,7 +1,10 @@
 pub mod Finding
 pub mod Places
 pub mod Parts
+pub mod Readings
 pub mod Refusing
+pub mod Judging
+pub mod Placing
 pub mod Progress
-pub mod Draining
 pub mod Made
+pub mod Draining

@@ -1,99 +1,70 @@
--- The frame that is made of the packets that were read is the frame of the plan and the inputs, where layer A is used alone.
+-- The frame that is made of the packets that were read is the frame of the plan and the inputs.
 use Rattle.std.proofs.Common.{◌≡◌, ℕ, ◌+◌, ◌*◌, ◌<◌, ◌≤◌, List, [], length, take, refl, ap, sym, ◌∙◌, subst, arith}
 use Rattle.std.specs.declared.option.Option.{Option}
 use Rattle.std.proofs.lemmas.Bool.{lt-ltb, le-ltb}
-use Rattle.std.proofs.Math.Nat.{mul-le-mul_right}
 use Rattle.isdbt_base.specs.declared.kinds.Layer.{Layer}
-use Rattle.isdbt_base.specs.declared.kinds.Layer.TheVariants.{A, B, C}
 use Rattle.isdbt_base.specs.Plans.{Transmission, Schedule, at_frame}
 use Rattle.edge_io.specs.Known.{append_known}
 use Rattle.ts_packet.specs.Packets.{piece_count, piece_or_null, null_packet}
+use Rattle.frame_order.specs.declared.layer_packets.LayerPackets.{LayerPackets}
+use Rattle.frame_order.specs.LayerBytes.{layer_bytes, layer_packet}
 use Rattle.frame_order.specs.OrderedFrame.{ordered_frame}
 use Rattle.frame_order.proofs.FrameBytes.{ordered_frame-same}
+use Rattle.remux_core.specs.declared.inputs.Inputs.{Inputs}
 use Rattle.remux_core.specs.Multiplex.{filled, placed_before, multiplexed, broadcast, frame_tag, packet_count, data_frames, written_frame}
 use Rattle.remux_core.specs.Frames.{packets_of, frame_made}
-use Rattle.remux_core.specs.Answers.{UsesAlone, only_a}
-use Rattle.remux_core.proofs.Places.{at_frame-one, ceil-covers, data_frames-alone}
-use Rattle.remux_core.proofs.Parts.{part_of, part-packet}
-use Rattle.remux_core.proofs.Progress.{placed, fills, Turn}
+use Rattle.remux_core.specs.Answers.{IsPlain}
+use Rattle.remux_core.specs.Reading.{input_of, IsRead}
+use Rattle.remux_core.proofs.Places.{at_frame-one, filled-one, placed_before-one, data_frames-cover}
+use Rattle.remux_core.proofs.Parts.{part-packet}
 
 -- the packet of a place that the frame fills
 multiplexed-filled : (p : Schedule) (input : Layer → List ℕ) (f : ℕ) (x : Layer) (j : ℕ) → j < filled p x f → multiplexed p input f x j ≡ piece_or_null (input x) (placed_before p x f + j)
 unfolding multiplexed
 multiplexed-filled p input f x j less = rw (lt-ltb j (filled p x f) less) refl
 
-multiplexed-a : (p : Schedule) (bytes : List ℕ) (f j : ℕ) → UsesAlone p → j < packets_of p.first A → multiplexed p (only_a bytes) f A j ≡ piece_or_null bytes (f * packets_of p.first A + j)
-multiplexed-a p bytes f j alone less =
-    let b = fills p f alone in
-    multiplexed-filled p (only_a bytes) f A j (omega (arith, b, less)) ∙ ap (λ n. piece_or_null bytes (n + j)) (placed p f alone)
+multiplexed-one : (p : Schedule) (input : Layer → List ℕ) (f : ℕ) (x : Layer) (j : ℕ) → IsPlain p → j < packets_of p.first x → multiplexed p input f x j ≡ piece_or_null (input x) (f * packets_of p.first x + j)
+multiplexed-one p input f x j plain less =
+    let b = filled-one p x f plain.no_switch in
+    multiplexed-filled p input f x j (omega (arith, b, less)) ∙ ap (λ n. piece_or_null (input x) (n + j)) (placed_before-one p x f plain.no_switch)
 
 -- a frame whose packets are these is the frame of the plan
-made : (p : Schedule) (input : Layer → List ℕ) (f : ℕ) (packet : Layer → ℕ → List ℕ) → p.switches ≡ [] → ((x : Layer) (j : ℕ) → j < packets_of p.first x → packet x j ≡ multiplexed p input f x j) → frame_made p p.first f packet ≡ written_frame p input f
+made : (p : Schedule) (input : Layer → List ℕ) (f : ℕ) (packet : Layer → ℕ → List ℕ) → IsPlain p → ((x : Layer) (j : ℕ) → j < packets_of p.first x → packet x j ≡ multiplexed p input f x j) → frame_made p p.first f packet ≡ written_frame p input f
 unfolding frame_made broadcast
-made p input f packet none same =
+made p input f packet plain same =
     ordered_frame-same p.first.mode p.first.guard p.first.setting (frame_tag (at_frame p f) f) packet (multiplexed p input f) (λ m inside. same m.layer m.index inside)
-    ∙ ap (λ at. ordered_frame at.mode at.guard at.setting (frame_tag (at_frame p f) f) (multiplexed p input f)) (sym (at_frame-one p f none))
+    ∙ ap (λ at. ordered_frame at.mode at.guard at.setting (frame_tag (at_frame p f) f) (multiplexed p input f)) (sym (at_frame-one p f plain.no_switch))
 
-absent-b : (p : Schedule) (j : ℕ) → UsesAlone p → j < packets_of p.first B → ⊥
-absent-b p j alone less = (let e : packets_of p.first B ≡ 0 = rw alone.no_b refl in omega (arith, e, less))
-
-absent-c : (p : Schedule) (j : ℕ) → UsesAlone p → j < packets_of p.first C → ⊥
-absent-c p j alone less = (let e : packets_of p.first C ≡ 0 = rw alone.no_c refl in omega (arith, e, less))
-
--- the frame of the bytes that were read
-pub made_of_part : (p : Schedule) (bytes part : List ℕ) (f : ℕ) (packet : Layer → ℕ → List ℕ) → UsesAlone p → part ≡ part_of bytes (f * packets_of p.first A) (packets_of p.first A) → ((j : ℕ) → packet A j ≡ piece_or_null part j) →
-    frame_made p p.first f packet ≡ written_frame p (only_a bytes) f
-made_of_part p bytes part f packet alone is has = made p (only_a bytes) f packet alone.no_switch each
+-- the frame of the packets that were read
+pub made_of_read : (p : Schedule) (t : Transmission) (input : Layer → List ℕ) (f : ℕ) (i : Inputs) (packets : LayerPackets) → IsPlain p → t ≡ p.first → ((x : Layer) → layer_bytes packets x ≡ take (input_of i x).count (input_of i x).bytes.items) →
+    ((x : Layer) → IsRead (packets_of p.first x) (input x) f (input_of i x)) → frame_made p t f (layer_packet packets) ≡ written_frame p input f
+made_of_read p t input f i packets plain is has read = ap (λ s. frame_made p s f (layer_packet packets)) is ∙ made p input f (layer_packet packets) plain each
   where
-    each : (x : Layer) (j : ℕ) → j < packets_of p.first x → packet x j ≡ multiplexed p (only_a bytes) f x j
-    each A j less = has j ∙ ap (λ xs. piece_or_null xs j) is ∙ part-packet bytes (f * packets_of p.first A) (packets_of p.first A) j less ∙ sym (multiplexed-a p bytes f j alone less)
-    each B j less = absurd (absent-b p j alone less)
-    each C j less = absurd (absent-c p j alone less)
+    each : (x : Layer) (j : ℕ) → j < packets_of p.first x → layer_packet packets x j ≡ multiplexed p input f x j
+    each x j less =
+        ap (λ xs. piece_or_null xs j) (has x ∙ (read x).part)
+        ∙ part-packet (input x) (f * packets_of p.first x) (packets_of p.first x) j less
+        ∙ sym (multiplexed-one p input f x j plain less)
 
 -- the frame of null packets behind the data
-pub made_of_none : (p : Schedule) (bytes : List ℕ) (f : ℕ) (packet : Layer → ℕ → List ℕ) → UsesAlone p → 0 < packets_of p.first A → data_frames p (packet_count (only_a bytes)) ≤ f → ((j : ℕ) → packet A j ≡ null_packet) →
-    frame_made p p.first f packet ≡ written_frame p (only_a bytes) f
-made_of_none p bytes f packet alone some past has = made p (only_a bytes) f packet alone.no_switch each
+pub made_of_none : (p : Schedule) (t : Transmission) (input : Layer → List ℕ) (f : ℕ) (packets : LayerPackets) → IsPlain p → t ≡ p.first → data_frames p (packet_count input) ≤ f → ((x : Layer) → layer_bytes packets x ≡ []) → frame_made p t f (layer_packet packets) ≡ written_frame p input f
+made_of_none p t input f packets plain is past none = ap (λ s. frame_made p s f (layer_packet packets)) is ∙ made p input f (layer_packet packets) plain each
   where
-    behind : (j : ℕ) → piece_or_null bytes (f * packets_of p.first A + j) ≡ null_packet
-    behind j =
-        let is = data_frames-alone p (packet_count (only_a bytes)) alone in
-        let covers = ceil-covers (piece_count 188 bytes) (packets_of p.first A) some in
-        let rows = mul-le-mul_right (packets_of p.first A) past in
-        let same = ap (λ n. n * packets_of p.first A) is in
-        rw (le-ltb (f * packets_of p.first A + j) (piece_count 188 bytes) (omega (arith, covers, rows, same))) refl
+    behind : (x : Layer) (j : ℕ) → j < packets_of p.first x → piece_or_null (input x) (f * packets_of p.first x + j) ≡ null_packet
+    behind x j less =
+        let covers = data_frames-cover p (packet_count input) x f plain past (omega (arith, less)) in
+        rw (le-ltb (f * packets_of p.first x + j) (piece_count 188 (input x)) (omega (arith, covers))) refl
 
-    each : (x : Layer) (j : ℕ) → j < packets_of p.first x → packet x j ≡ multiplexed p (only_a bytes) f x j
-    each A j less = has j ∙ sym (behind j) ∙ sym (multiplexed-a p bytes f j alone less)
-    each B j less = absurd (absent-b p j alone less)
-    each C j less = absurd (absent-c p j alone less)
+    null : (j : ℕ) → piece_or_null [] j ≡ null_packet
+    null j = rw (le-ltb j 0 (omega arith)) refl
 
--- the frame of the bytes that were read to the front of a buffer
-pub made_of_turn : (p : Schedule) (bytes : List ℕ) (limit f count : ℕ) (buf : List ℕ) (t : Transmission) (packet : Layer → ℕ → List ℕ) (before mid after left : Option (List ℕ)) → UsesAlone p → t ≡ p.first → ((j : ℕ) → packet A j ≡ piece_or_null (take count buf) j) →
-    Turn p bytes limit f count buf before mid left → after ≡ append_known mid (frame_made p t f packet) → after ≡ append_known mid (written_frame p (only_a bytes) f)
-made_of_turn p bytes limit f count buf t packet before mid after left alone is has turn wrote =
-    wrote ∙ ap (λ s. append_known mid (frame_made p s f packet)) is ∙ ap (append_known mid) (made_of_part p bytes (take count buf) f packet alone turn.part has)
+    each : (x : Layer) (j : ℕ) → j < packets_of p.first x → layer_packet packets x j ≡ multiplexed p input f x j
+    each x j less = ap (λ xs. piece_or_null xs j) (none x) ∙ null j ∙ sym (behind x j less) ∙ sym (multiplexed-one p input f x j plain less)
 
--- a front part of that frame
-pub part_of_turn : (p : Schedule) (bytes : List ℕ) (limit f count n : ℕ) (buf : List ℕ) (t : Transmission) (packet : Layer → ℕ → List ℕ) (before mid after left : Option (List ℕ)) → UsesAlone p → t ≡ p.first → ((j : ℕ) → packet A j ≡ piece_or_null (take count buf) j) →
-    Turn p bytes limit f count buf before mid left → n < length (frame_made p t f packet) → after ≡ append_known mid (take n (frame_made p t f packet)) →
-    (n < length (written_frame p (only_a bytes) f)) × (after ≡ append_known mid (take n (written_frame p (only_a bytes) f)))
-part_of_turn p bytes limit f count n buf t packet before mid after left alone is has turn short wrote =
-    let same : frame_made p t f packet ≡ written_frame p (only_a bytes) f = ap (λ s. frame_made p s f packet) is ∙ made_of_part p bytes (take count buf) f packet alone turn.part has in
-    (subst (λ (xs : List ℕ). n < length xs) same short, wrote ∙ ap (λ xs. append_known mid (take n xs)) same)
+-- ---- what was written of it
 
--- ---- behind the data
+pub wrote_all : (made frame : List ℕ) (mid after : Option (List ℕ)) → made ≡ frame → after ≡ append_known mid made → after ≡ append_known mid frame
+wrote_all made frame mid after same wrote = wrote ∙ ap (append_known mid) same
 
-none_null : (packet : Layer → ℕ → List ℕ) → ((j : ℕ) → packet A j ≡ piece_or_null [] j) → (j : ℕ) → packet A j ≡ null_packet
-none_null packet has j = (let none : piece_or_null [] j ≡ null_packet = rw (le-ltb j 0 (omega arith)) refl in has j ∙ none)
-
-pub made_past : (p : Schedule) (bytes : List ℕ) (f : ℕ) (t : Transmission) (packet : Layer → ℕ → List ℕ) (mid after : Option (List ℕ)) → UsesAlone p → 0 < packets_of p.first A → t ≡ p.first → data_frames p (packet_count (only_a bytes)) ≤ f → ((j : ℕ) → packet A j ≡ piece_or_null [] j) →
-    after ≡ append_known mid (frame_made p t f packet) → after ≡ append_known mid (written_frame p (only_a bytes) f)
-made_past p bytes f t packet mid after alone some is past has wrote =
-    wrote ∙ ap (λ s. append_known mid (frame_made p s f packet)) is ∙ ap (append_known mid) (made_of_none p bytes f packet alone some past (none_null packet has))
-
-pub part_past : (p : Schedule) (bytes : List ℕ) (f n : ℕ) (t : Transmission) (packet : Layer → ℕ → List ℕ) (mid after : Option (List ℕ)) → UsesAlone p → 0 < packets_of p.first A → t ≡ p.first → data_frames p (packet_count (only_a bytes)) ≤ f → ((j : ℕ) → packet A j ≡ piece_or_null [] j) →
-    n < length (frame_made p t f packet) → after ≡ append_known mid (take n (frame_made p t f packet)) → (n < length (written_frame p (only_a bytes) f)) × (after ≡ append_known mid (take n (written_frame p (only_a bytes) f)))
-part_past p bytes f n t packet mid after alone some is past has short wrote =
-    let same : frame_made p t f packet ≡ written_frame p (only_a bytes) f = ap (λ s. frame_made p s f packet) is ∙ made_of_none p bytes f packet alone some past (none_null packet has) in
-    (subst (λ (xs : List ℕ). n < length xs) same short, wrote ∙ ap (λ xs. append_known mid (take n xs)) same)
+pub wrote_some : (made frame : List ℕ) (n : ℕ) (mid after : Option (List ℕ)) → made ≡ frame → n < length made → after ≡ append_known mid (take n made) → (n < length frame) × (after ≡ append_known mid (take n frame))
+wrote_some made frame n mid after same short wrote = (subst (λ (xs : List ℕ). n < length xs) same short, wrote ∙ ap (λ xs. append_known mid (take n xs)) same)

@@ -13,6 +13,7 @@ use Rattle.remux_core.specs.declared.fault.RemuxFault.TheVariants.{BadSync, Trun
 use Rattle.remux_core.specs.Multiplex.{filled, placed_before, packet_count}
 use Rattle.remux_core.specs.Refusals.{seat_of, places, truncated_in, places_bad_sync, bad_sync_in}
 use Rattle.remux_core.specs.Parts.{HasSync}
+use Rattle.remux_core.specs.Reading.{part_of}
 use Rattle.remux_core.proofs.Finding.{find-none, find-first}
 
 -- a part of the front of a list is that part of the list
@@ -21,10 +22,6 @@ window k i m xs fits =
     let parts : m ≡ i + (m - i) = omega arith in
     let room : k ≤ m - i = omega arith in
     ap (λ n. take k (drop i (take n xs))) parts ∙ ap (take k) (drop-take i (m - i) xs) ∙ take-take k (m - i) (drop i xs) room
-
--- the bytes that t packets take behind the first so many packets
-abbrev pub part_of : List ℕ → ℕ → ℕ → List ℕ
-part_of bytes first t = take (188 * t) (drop (188 * first) bytes)
 
 pub length-part_of : (bytes : List ℕ) (first t : ℕ) → length (part_of bytes first t) ≡ min (188 * t) (length bytes - 188 * first)
 length-part_of bytes first t = length-take (188 * t) (drop (188 * first) bytes) ∙ ap (min (188 * t)) (length-drop (188 * first) bytes)

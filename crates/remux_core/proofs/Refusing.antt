@@ -1,51 +1,127 @@
--- Why a frame is refused where layer A is used alone.
-use Rattle.std.proofs.Common.{◌≡◌, ℕ, ◌<◌, Bool, true, false, List, [], ◌∷◌, None, Some, refl, sym, ◌∙◌, arith}
+-- Why a frame is refused, by the packets that were read for it.
+use Rattle.std.proofs.Common.{◌≡◌, ◌≢◌, ℕ, ◌+◌, ◌-◌, ◌*◌, ◌/◌, ◌%◌, ◌<◌, ◌≤◌, vec_len, Bool, true, false, List, [], ◌∷◌, length, take, drop, get_or, None, Some, refl, sym, ap, ◌∙◌, arith, inl, inr}
 use Rattle.std.specs.declared.option.Option.{Option}
+use Rattle.std.specs.Option.{option_or}
 use Rattle.std.specs.Prelude.{◌&&◌, ◌==◌, if◌then◌else◌}
-use Rattle.std.proofs.lemmas.Bool.{ne_eqb, eq-eqb}
+use Rattle.std.proofs.lemmas.Bool.{cases_lt, ne_eqb, eq-eqb}
+use Rattle.std.proofs.lemmas.List.{get_or-take, get_or-drop}
+use Rattle.isdbt_base.specs.declared.kinds.Layer.{Layer}
 use Rattle.isdbt_base.specs.declared.kinds.Layer.TheVariants.{A, B, C}
 use Rattle.isdbt_base.specs.Plans.{Schedule}
 use Rattle.isdbt_base.specs.Outcome.{first_some}
 use Rattle.remux_core.specs.declared.fault.RemuxFault.{RemuxFault}
-use Rattle.remux_core.specs.declared.fault.RemuxFault.TheVariants.{TooLong}
-use Rattle.remux_core.specs.Multiplex.{filled}
-use Rattle.remux_core.specs.Refusals.{refusal, is_there, too_long_at, truncated_in, bad_sync_in}
-use Rattle.remux_core.specs.Answers.{UsesAlone, only_a}
-use Rattle.remux_core.specs.Parts.{IsGood}
-use Rattle.remux_core.proofs.Places.{filled-one}
-use Rattle.remux_core.proofs.Parts.{truncated-whole, bad_sync-none}
+use Rattle.remux_core.specs.declared.fault.RemuxFault.TheVariants.{BadSync, Truncated, TooLong}
+use Rattle.remux_core.specs.declared.layer_input.LayerInput.{LayerInput}
+use Rattle.remux_core.specs.declared.packets.Part.{Part}
+use Rattle.remux_core.specs.declared.packets.Part.TheVariants.{Good, NoSync, Cut}
+use Rattle.remux_core.specs.Multiplex.{filled, placed_before}
+use Rattle.remux_core.specs.Refusals.{seat_of, refusal, is_there, too_long_at, truncated_in, bad_sync_in}
+use Rattle.remux_core.specs.Frames.{packets_of}
+use Rattle.remux_core.specs.Parts.{HasSync, IsWhole, IsGood, Says}
+use Rattle.remux_core.specs.Answers.{IsPlain}
+use Rattle.remux_core.specs.Reading.{input_of, IsRead}
+use Rattle.remux_core.specs.declared.inputs.Inputs.{Inputs}
+use Rattle.remux_core.specs.Judging.{cut_fault, sync_fault}
+use Rattle.remux_core.proofs.Places.{filled-one, placed_before-one}
+use Rattle.remux_core.proofs.Parts.{length-part_of, truncated-whole, truncated-full, truncated-ended, truncated-cut, bad_sync-none, bad_sync-first}
 
--- the first of seven causes, where the causes before it are none
-none_of : {X : Type 0} (a b c d e f g : Option X) → a ≡ None → b ≡ None → c ≡ None → d ≡ None → e ≡ None → f ≡ None → g ≡ None → first_some (a ∷ b ∷ c ∷ d ∷ e ∷ f ∷ g ∷ []) ≡ None
-none_of a b c d e f g ha hb hc hd he hf hg = rw (ha, hb, hc, hd, he, hf, hg) refl
+-- ---- the bytes that were read
 
-fifth_of : {X : Type 0} (a b c d e f g : Option X) (x : X) → a ≡ None → b ≡ None → c ≡ None → d ≡ None → e ≡ Some x → first_some (a ∷ b ∷ c ∷ d ∷ e ∷ f ∷ g ∷ []) ≡ Some x
-fifth_of a b c d e f g x ha hb hc hd he = rw (ha, hb, hc, hd, he) refl
+pub read_length : (t : ℕ) (bytes : List ℕ) (f : ℕ) (i : LayerInput) → IsRead t bytes f i → length (take i.count i.bytes.items) ≡ i.count
+read_length t bytes f i r = ap length r.part ∙ length-part_of bytes (f * t) t ∙ sym r.count
 
-second_of : {X : Type 0} (a b c d e f g : Option X) (x : X) → a ≡ None → b ≡ Some x → first_some (a ∷ b ∷ c ∷ d ∷ e ∷ f ∷ g ∷ []) ≡ Some x
-second_of a b c d e f g x ha hb = rw (ha, hb) refl
+-- the first byte of a packet that was read
+first_byte : (t : ℕ) (bytes : List ℕ) (f : ℕ) (i : LayerInput) (k : ℕ) → IsRead t bytes f i → 188 * k < i.count → get_or (take i.count i.bytes.items) (188 * k) 0 ≡ get_or bytes (188 * (f * t + k)) 0
+first_byte t bytes f i k r less =
+    let count = r.count in
+    let there : 188 * (f * t) + 188 * k ≡ 188 * (f * t + k) = omega arith in
+    let within : 188 * k < 188 * t = omega (arith, less, count) in
+    ap (λ xs. get_or xs (188 * k) 0) r.part ∙ get_or-take (188 * t) (drop (188 * (f * t)) bytes) (188 * k) 0 within
+    ∙ get_or-drop (188 * (f * t)) bytes (188 * k) 0 ∙ ap (λ n. get_or bytes n 0) there
 
-first_of_all : {X : Type 0} (a b c d e f g : Option X) (x : X) → a ≡ Some x → first_some (a ∷ b ∷ c ∷ d ∷ e ∷ f ∷ g ∷ []) ≡ Some x
-first_of_all a b c d e f g x ha = rw ha refl
+-- a packet that was read, by its place in the input
+sync_at : (t : ℕ) (bytes : List ℕ) (f : ℕ) (i : LayerInput) (k : ℕ) → IsRead t bytes f i → f * t ≤ k → 188 * (k - f * t) < i.count → HasSync (take i.count i.bytes.items) (k - f * t) → HasSync bytes k
+sync_at t bytes f i k r from less has =
+    let at : f * t + (k - f * t) ≡ k = omega (arith, from) in
+    ap (λ n. get_or bytes (188 * n) 0) (sym at) ∙ sym (first_byte t bytes f i (k - f * t) r less) ∙ has
 
--- layers B and C place nothing
-no_b : (p : Schedule) (f : ℕ) → UsesAlone p → filled p B f ≡ 0
-no_b p f alone = filled-one p B f alone.no_switch ∙ (rw alone.no_b refl)
+-- the packets of the part begin with the sync byte
+pub synced : (t : ℕ) (bytes : List ℕ) (f : ℕ) (i : LayerInput) (k : ℕ) → IsRead t bytes f i → IsGood (take i.count i.bytes.items) → f * t ≤ k → k < f * t + t → 188 * k < length bytes → HasSync bytes k
+synced t bytes f i k r good from below there =
+    let len = read_length t bytes f i r in
+    let count = r.count in
+    let less : 188 * (k - f * t) < i.count = omega (arith, count, from, below, there) in
+    sync_at t bytes f i k r from less (good.sync (k - f * t) (omega (arith, len, less)))
 
-no_c : (p : Schedule) (f : ℕ) → UsesAlone p → filled p C f ≡ 0
-no_c p f alone = filled-one p C f alone.no_switch ∙ (rw alone.no_c refl)
+-- ---- one layer
 
-truncated-b : (p : Schedule) (bytes : List ℕ) (f : ℕ) → truncated_in p (only_a bytes) f B ≡ None
-truncated-b p bytes f = truncated-whole p (only_a bytes) f B refl
+record LayerRead (p : Schedule) (input : Layer → List ℕ) (f : ℕ) (x : Layer) (i : LayerInput) : Type 0 where
+  plain : IsPlain p
+  read : IsRead (packets_of p.first x) (input x) f i
 
-truncated-c : (p : Schedule) (bytes : List ℕ) (f : ℕ) → truncated_in p (only_a bytes) f C ≡ None
-truncated-c p bytes f = truncated-whole p (only_a bytes) f C refl
+placed : (p : Schedule) (x : Layer) (f : ℕ) → IsPlain p → placed_before p x f ≡ f * packets_of p.first x
+placed p x f plain = placed_before-one p x f plain.no_switch
 
-bad_sync-b : (p : Schedule) (bytes : List ℕ) (f : ℕ) → UsesAlone p → bad_sync_in p (only_a bytes) f B ≡ None
-bad_sync-b p bytes f alone = bad_sync-none p (only_a bytes) f B (λ i from below there. absurd (let e = no_b p f alone in omega (arith, e, from, below)))
+fills : (p : Schedule) (x : Layer) (f : ℕ) → IsPlain p → filled p x f ≡ packets_of p.first x
+fills p x f plain = filled-one p x f plain.no_switch
 
-bad_sync-c : (p : Schedule) (bytes : List ℕ) (f : ℕ) → UsesAlone p → bad_sync_in p (only_a bytes) f C ≡ None
-bad_sync-c p bytes f alone = bad_sync-none p (only_a bytes) f C (λ i from below there. absurd (let e = no_c p f alone in omega (arith, e, from, below)))
+-- whole packets: the input isn't cut in this frame
+whole_part : (p : Schedule) (input : Layer → List ℕ) (f : ℕ) (x : Layer) (i : LayerInput) → LayerRead p input f x i → IsWhole (take i.count i.bytes.items) → truncated_in p input f x ≡ None
+whole_part p input f x i r whole =
+    let len = read_length (packets_of p.first x) (input x) f i r.read in
+    let count = r.read.count in
+    let a = placed p x f r.plain in
+    let b = fills p x f r.plain in
+    elim (cases_lt i.count (188 * packets_of p.first x)) [
+      | inr all ↦ elim (cases_lt (length (input x)) (188 * (f * packets_of p.first x))) [
+        | inl short ↦ truncated-ended p input f x (omega (arith, a, short))
+        | inr long ↦ truncated-full p input f x (omega (arith, a, b, count, all, long))
+      ]
+      | inl short ↦ elim (cases_lt 0 i.count) [
+        | inl some ↦ truncated-whole p input f x (omega (arith, len, count, short, some, whole))
+        | inr none ↦ truncated-ended p input f x (omega (arith, a, count, short, none))
+      ]
+    ]
+
+cut_is : (p : Schedule) (input : Layer → List ℕ) (f : ℕ) (x : Layer) (i : LayerInput) (part : Part) → LayerRead p input f x i → Says (take i.count i.bytes.items) part → truncated_in p input f x ≡ cut_fault (seat_of x) part
+cut_is p input f x i Good r says = whole_part p input f x i r says.whole
+cut_is p input f x i (NoSync k) r says = whole_part p input f x i r says.whole
+cut_is p input f x i (Cut over) r says =
+    let len = read_length (packets_of p.first x) (input x) f i r.read in
+    let count = r.read.count in
+    let a = placed p x f r.plain in
+    let b = fills p x f r.plain in
+    let some = says.some in
+    let over_is = says.over_is in
+    let rest : length (input x) % 188 ≡ over = omega (arith, len, count, some, over_is) in
+    let ne : length (input x) % 188 ≢ 0 = omega (arith, rest, some) in
+    truncated-cut p input f x ne (omega (arith, a, len, count, some, over_is)) (omega (arith, a, b, len, count, some, over_is)) ∙ ap (λ n. Some (Truncated (seat_of x) n)) rest
+
+none_some : {X : Type 0} (x : X) → Some x ≡ None → ⊥
+none_some x e = cc
+
+sync_is : (p : Schedule) (input : Layer → List ℕ) (f : ℕ) (x : Layer) (i : LayerInput) (part : Part) → LayerRead p input f x i → Says (take i.count i.bytes.items) part → cut_fault (seat_of x) part ≡ None → bad_sync_in p input f x ≡ sync_fault (seat_of x) (f * packets_of p.first x) part
+sync_is p input f x i Good r says uncut =
+    let a = placed p x f r.plain in
+    let b = fills p x f r.plain in
+    let len = read_length (packets_of p.first x) (input x) f i r.read in
+    let count = r.read.count in
+    let whole = says.whole in
+    bad_sync-none p input f x (λ k from below there. synced (packets_of p.first x) (input x) f i k r.read says (omega (arith, a, from)) (omega (arith, a, b, below)) (omega (arith, a, b, from, below, there, len, count, whole)))
+sync_is p input f x i (NoSync k) r says uncut =
+    let a = placed p x f r.plain in
+    let b = fills p x f r.plain in
+    let len = read_length (packets_of p.first x) (input x) f i r.read in
+    let count = r.read.count in
+    let inside = says.within in
+    let within : 188 * k < i.count = omega (arith, len, inside) in
+    bad_sync-first p input f x k (omega (arith, b, within, count)) (omega (arith, a, within, count))
+    (λ e. says.bad (first_byte (packets_of p.first x) (input x) f i k r.read within ∙ ap (λ m. get_or (input x) (188 * (m + k)) 0) (sym a) ∙ e))
+    (λ m from below. sync_at (packets_of p.first x) (input x) f i m r.read (omega (arith, a, from)) (omega (arith, a, from, below, within)) (says.before (m - f * packets_of p.first x) (omega (arith, a, from, below))))
+    ∙ ap (λ n. Some (BadSync (seat_of x) (n + k))) a
+sync_is p input f x i (Cut over) r says uncut = absurd (none_some (Truncated (seat_of x) over) uncut)
+
+-- ---- the limit
 
 at_limit : (same there : Bool) → same ≡ true → there ≡ true → (if same && there then Some TooLong else None) ≡ Some TooLong
 at_limit same there e k = rw (e, k) refl
@@ -57,43 +133,116 @@ not_there : (same there : Bool) → there ≡ false → (if same && there then S
 not_there true there e = rw e refl
 not_there false there e = refl
 
-too_long-none : (p : Schedule) (bytes : List ℕ) (limit f : ℕ) → f < limit → too_long_at p (only_a bytes) limit f ≡ None
-too_long-none p bytes limit f less = not_yet (f == limit) (is_there p (only_a bytes) f) (ne_eqb f limit (λ e. omega (arith, e, less)))
+pub too_long-none : (p : Schedule) (input : Layer → List ℕ) (limit f : ℕ) → f < limit → too_long_at p input limit f ≡ None
+too_long-none p input limit f less = not_yet (f == limit) (is_there p input f) (ne_eqb f limit (λ e. omega (arith, e, less)))
 
--- nothing is wrong with the frame
-pub refusal-none : (p : Schedule) (bytes : List ℕ) (limit f : ℕ) → UsesAlone p → f < limit → truncated_in p (only_a bytes) f A ≡ None → bad_sync_in p (only_a bytes) f A ≡ None → refusal p (only_a bytes) limit f ≡ None
-unfolding refusal
-refusal-none p bytes limit f alone less whole sync =
-    none_of (too_long_at p (only_a bytes) limit f) (truncated_in p (only_a bytes) f A) (truncated_in p (only_a bytes) f B) (truncated_in p (only_a bytes) f C) (bad_sync_in p (only_a bytes) f A) (bad_sync_in p (only_a bytes) f B) (bad_sync_in p (only_a bytes) f C)
-    (too_long-none p bytes limit f less) whole (truncated-b p bytes f) (truncated-c p bytes f) sync (bad_sync-b p bytes f alone) (bad_sync-c p bytes f alone)
+-- ---- all layers
 
--- nothing is wrong with the frame behind the last
-pub refusal-end : (p : Schedule) (bytes : List ℕ) (limit f : ℕ) → UsesAlone p → is_there p (only_a bytes) f ≡ false → truncated_in p (only_a bytes) f A ≡ None → bad_sync_in p (only_a bytes) f A ≡ None → refusal p (only_a bytes) limit f ≡ None
-unfolding refusal
-refusal-end p bytes limit f alone gone whole sync =
-    none_of (too_long_at p (only_a bytes) limit f) (truncated_in p (only_a bytes) f A) (truncated_in p (only_a bytes) f B) (truncated_in p (only_a bytes) f C) (bad_sync_in p (only_a bytes) f A) (bad_sync_in p (only_a bytes) f B) (bad_sync_in p (only_a bytes) f C)
-    (not_there (f == limit) (is_there p (only_a bytes) f) gone) whole (truncated-b p bytes f) (truncated-c p bytes f) sync (bad_sync-b p bytes f alone) (bad_sync-c p bytes f alone)
+-- what stands behind a cause that is there doesn't matter
+behind : {X : Type 0} (a b c d e f d' e' f' : Option X) → (a ≡ None → d' ≡ d) → (b ≡ None → e' ≡ e) → (c ≡ None → f' ≡ f) →
+    first_some (a ∷ b ∷ c ∷ d' ∷ e' ∷ f' ∷ []) ≡ first_some (a ∷ b ∷ c ∷ d ∷ e ∷ f ∷ [])
+behind (Some x) b c d e f d' e' f' h k l = refl
+behind None (Some x) c d e f d' e' f' h k l = refl
+behind None None (Some x) d e f d' e' f' h k l = refl
+behind None None None d e f d' e' f' h k l = rw (h refl, k refl, l refl) refl
 
--- the input ends inside a packet of the frame
-pub refusal-truncated : (p : Schedule) (bytes : List ℕ) (limit f : ℕ) (fault : RemuxFault) → f < limit → truncated_in p (only_a bytes) f A ≡ Some fault → refusal p (only_a bytes) limit f ≡ Some fault
-unfolding refusal
-refusal-truncated p bytes limit f fault less cut =
-    second_of (too_long_at p (only_a bytes) limit f) (truncated_in p (only_a bytes) f A) (truncated_in p (only_a bytes) f B) (truncated_in p (only_a bytes) f C) (bad_sync_in p (only_a bytes) f A) (bad_sync_in p (only_a bytes) f B) (bad_sync_in p (only_a bytes) f C)
-    fault (too_long-none p bytes limit f less) cut
+skip : {X : Type 0} (a : Option X) (xs : List (Option X)) → a ≡ None → first_some (a ∷ xs) ≡ first_some xs
+skip a xs e = rw e refl
 
--- a packet of the frame doesn't begin with the sync byte
-pub refusal-bad_sync : (p : Schedule) (bytes : List ℕ) (limit f : ℕ) (fault : RemuxFault) → f < limit → truncated_in p (only_a bytes) f A ≡ None → bad_sync_in p (only_a bytes) f A ≡ Some fault → refusal p (only_a bytes) limit f ≡ Some fault
+ors : {X : Type 0} (a b c d e f : Option X) → option_or (option_or (option_or (option_or (option_or a b) c) d) e) f ≡ first_some (a ∷ b ∷ c ∷ d ∷ e ∷ f ∷ [])
+ors (Some x) b c d e f = refl
+ors None (Some x) c d e f = refl
+ors None None (Some x) d e f = refl
+ors None None None (Some x) e f = refl
+ors None None None None (Some x) f = refl
+ors None None None None None (Some x) = refl
+ors None None None None None None = refl
+
+-- the first cause among the packets that were read is the frame's refusal
+pub refusal-read : (p : Schedule) (input : Layer → List ℕ) (limit f : ℕ) (a b c : LayerInput) (pa pb pc : Part) → IsPlain p → f < limit → IsRead (packets_of p.first A) (input A) f a → IsRead (packets_of p.first B) (input B) f b → IsRead (packets_of p.first C) (input C) f c →
+    Says (take a.count a.bytes.items) pa → Says (take b.count b.bytes.items) pb → Says (take c.count c.bytes.items) pc →
+    option_or (option_or (option_or (option_or (option_or (cut_fault (seat_of A) pa) (cut_fault (seat_of B) pb)) (cut_fault (seat_of C) pc)) (sync_fault (seat_of A) (f * packets_of p.first A) pa)) (sync_fault (seat_of B) (f * packets_of p.first B) pb)) (sync_fault (seat_of C) (f * packets_of p.first C) pc) ≡ refusal p input limit f
 unfolding refusal
-refusal-bad_sync p bytes limit f fault less whole bad =
-    fifth_of (too_long_at p (only_a bytes) limit f) (truncated_in p (only_a bytes) f A) (truncated_in p (only_a bytes) f B) (truncated_in p (only_a bytes) f C) (bad_sync_in p (only_a bytes) f A) (bad_sync_in p (only_a bytes) f B) (bad_sync_in p (only_a bytes) f C)
-    fault (too_long-none p bytes limit f less) whole (truncated-b p bytes f) (truncated-c p bytes f) bad
+refusal-read p input limit f a b c pa pb pc plain less ra rb rc sa sb sc =
+    let la : LayerRead p input f A a = record { plain = plain; read = ra } in
+    let lb : LayerRead p input f B b = record { plain = plain; read = rb } in
+    let lc : LayerRead p input f C c = record { plain = plain; read = rc } in
+    let ca = cut_is p input f A a pa la sa in
+    let cb = cut_is p input f B b pb lb sb in
+    let cd = cut_is p input f C c pc lc sc in
+    ors (cut_fault (seat_of A) pa) (cut_fault (seat_of B) pb) (cut_fault (seat_of C) pc) (sync_fault (seat_of A) (f * packets_of p.first A) pa) (sync_fault (seat_of B) (f * packets_of p.first B) pb) (sync_fault (seat_of C) (f * packets_of p.first C) pc)
+    ∙ sym (behind (cut_fault (seat_of A) pa) (cut_fault (seat_of B) pb) (cut_fault (seat_of C) pc)
+    (sync_fault (seat_of A) (f * packets_of p.first A) pa) (sync_fault (seat_of B) (f * packets_of p.first B) pb) (sync_fault (seat_of C) (f * packets_of p.first C) pc)
+    (bad_sync_in p input f A) (bad_sync_in p input f B) (bad_sync_in p input f C)
+    (sync_is p input f A a pa la sa) (sync_is p input f B b pb lb sb) (sync_is p input f C c pc lc sc))
+    ∙ ap (λ o. first_some (o ∷ cut_fault (seat_of B) pb ∷ cut_fault (seat_of C) pc ∷ bad_sync_in p input f A ∷ bad_sync_in p input f B ∷ bad_sync_in p input f C ∷ [])) (sym ca)
+    ∙ ap (λ o. first_some (truncated_in p input f A ∷ o ∷ cut_fault (seat_of C) pc ∷ bad_sync_in p input f A ∷ bad_sync_in p input f B ∷ bad_sync_in p input f C ∷ [])) (sym cb)
+    ∙ ap (λ o. first_some (truncated_in p input f A ∷ truncated_in p input f B ∷ o ∷ bad_sync_in p input f A ∷ bad_sync_in p input f B ∷ bad_sync_in p input f C ∷ [])) (sym cd)
+    ∙ sym (skip (too_long_at p input limit f) (truncated_in p input f A ∷ truncated_in p input f B ∷ truncated_in p input f C ∷ bad_sync_in p input f A ∷ bad_sync_in p input f B ∷ bad_sync_in p input f C ∷ []) (too_long-none p input limit f less))
+
+-- the same, where the packets before the parts were counted by the room of a frame
+pub refusal-judged : (p : Schedule) (input : Layer → List ℕ) (limit f na nb nc : ℕ) (a b c : LayerInput) (pa pb pc : Part) → IsPlain p → f < limit → vec_len a.bytes ≡ 188 * packets_of p.first A → vec_len b.bytes ≡ 188 * packets_of p.first B → vec_len c.bytes ≡ 188 * packets_of p.first C →
+    na ≡ f * (vec_len a.bytes / 188) → nb ≡ f * (vec_len b.bytes / 188) → nc ≡ f * (vec_len c.bytes / 188) →
+    IsRead (packets_of p.first A) (input A) f a → IsRead (packets_of p.first B) (input B) f b → IsRead (packets_of p.first C) (input C) f c →
+    Says (take a.count a.bytes.items) pa → Says (take b.count b.bytes.items) pb → Says (take c.count c.bytes.items) pc →
+    option_or (option_or (option_or (option_or (option_or (cut_fault (seat_of A) pa) (cut_fault (seat_of B) pb)) (cut_fault (seat_of C) pc)) (sync_fault (seat_of A) na pa)) (sync_fault (seat_of B) nb pb)) (sync_fault (seat_of C) nc pc) ≡ refusal p input limit f
+refusal-judged p input limit f na nb nc a b c pa pb pc plain less va vb vc ea eb ec ra rb rc sa sb sc =
+    let cuts = option_or (option_or (cut_fault (seat_of A) pa) (cut_fault (seat_of B) pb)) (cut_fault (seat_of C) pc) in
+    ap (λ n. option_or (option_or (option_or cuts (sync_fault (seat_of A) n pa)) (sync_fault (seat_of B) nb pb)) (sync_fault (seat_of C) nc pc)) (counted na (vec_len a.bytes) (packets_of p.first A) va ea)
+    ∙ ap (λ n. option_or (option_or (option_or cuts (sync_fault (seat_of A) (f * packets_of p.first A) pa)) (sync_fault (seat_of B) n pb)) (sync_fault (seat_of C) nc pc)) (counted nb (vec_len b.bytes) (packets_of p.first B) vb eb)
+    ∙ ap (λ n. option_or (option_or (option_or cuts (sync_fault (seat_of A) (f * packets_of p.first A) pa)) (sync_fault (seat_of B) (f * packets_of p.first B) pb)) (sync_fault (seat_of C) n pc)) (counted nc (vec_len c.bytes) (packets_of p.first C) vc ec)
+    ∙ refusal-read p input limit f a b c pa pb pc plain less ra rb rc sa sb sc
+  where
+    counted : (n v t : ℕ) → v ≡ 188 * t → n ≡ f * (v / 188) → n ≡ f * t
+    counted n v t e k = k ∙ ap (λ m. f * m) (let same : v / 188 ≡ t = omega (arith, e) in same)
+
+-- no cause: all packets are good
+pub all_good : (a b c : List ℕ) (pa pb pc : Part) (sa sb sc : ℕ) → Says a pa → Says b pb → Says c pc →
+    option_or (option_or (option_or (option_or (option_or (cut_fault (seat_of A) pa) (cut_fault (seat_of B) pb)) (cut_fault (seat_of C) pc)) (sync_fault (seat_of A) sa pa)) (sync_fault (seat_of B) sb pb)) (sync_fault (seat_of C) sc pc) ≡ None →
+    IsGood a × IsGood b × IsGood c
+all_good a b c Good Good Good sa sb sc ga gb gc e = (ga, gb, gc)
+all_good a b c Good Good (NoSync k) sa sb sc ga gb gc e = absurd (cc)
+all_good a b c Good Good (Cut k) sa sb sc ga gb gc e = absurd (cc)
+all_good a b c Good (NoSync k) Good sa sb sc ga gb gc e = absurd (cc)
+all_good a b c Good (NoSync k) (NoSync l) sa sb sc ga gb gc e = absurd (cc)
+all_good a b c Good (NoSync k) (Cut l) sa sb sc ga gb gc e = absurd (cc)
+all_good a b c Good (Cut k) pc sa sb sc ga gb gc e = absurd (cc)
+all_good a b c (NoSync k) Good Good sa sb sc ga gb gc e = absurd (cc)
+all_good a b c (NoSync k) Good (NoSync l) sa sb sc ga gb gc e = absurd (cc)
+all_good a b c (NoSync k) Good (Cut l) sa sb sc ga gb gc e = absurd (cc)
+all_good a b c (NoSync k) (NoSync l) Good sa sb sc ga gb gc e = absurd (cc)
+all_good a b c (NoSync k) (NoSync l) (NoSync m) sa sb sc ga gb gc e = absurd (cc)
+all_good a b c (NoSync k) (NoSync l) (Cut m) sa sb sc ga gb gc e = absurd (cc)
+all_good a b c (NoSync k) (Cut l) pc sa sb sc ga gb gc e = absurd (cc)
+all_good a b c (Cut k) pb pc sa sb sc ga gb gc e = absurd (cc)
+
+pub all_layers : (i : Inputs) → IsGood (take i.a.count i.a.bytes.items) → IsGood (take i.b.count i.b.bytes.items) → IsGood (take i.c.count i.c.bytes.items) → (x : Layer) → IsGood (take (input_of i x).count (input_of i x).bytes.items)
+all_layers i a b c A = a
+all_layers i a b c B = b
+all_layers i a b c C = c
+
+-- ---- frames behind the inputs
 
 -- the frame at the limit is there
-pub refusal-too_long : (p : Schedule) (bytes : List ℕ) (limit : ℕ) → is_there p (only_a bytes) limit ≡ true → refusal p (only_a bytes) limit limit ≡ Some TooLong
+pub refusal-too_long : (p : Schedule) (input : Layer → List ℕ) (limit : ℕ) → is_there p input limit ≡ true → refusal p input limit limit ≡ Some TooLong
 unfolding refusal
-refusal-too_long p bytes limit there =
-    first_of_all (too_long_at p (only_a bytes) limit limit) (truncated_in p (only_a bytes) limit A) (truncated_in p (only_a bytes) limit B) (truncated_in p (only_a bytes) limit C) (bad_sync_in p (only_a bytes) limit A) (bad_sync_in p (only_a bytes) limit B) (bad_sync_in p (only_a bytes) limit C)
-    TooLong (at_limit (limit == limit) (is_there p (only_a bytes) limit) (eq-eqb limit limit refl) there)
+refusal-too_long p input limit there = rw (at_limit (limit == limit) (is_there p input limit) (eq-eqb limit limit refl) there) refl
+
+none_of : {X : Type 0} (a b c d e f g : Option X) → a ≡ None → b ≡ None → c ≡ None → d ≡ None → e ≡ None → f ≡ None → g ≡ None → first_some (a ∷ b ∷ c ∷ d ∷ e ∷ f ∷ g ∷ []) ≡ None
+none_of a b c d e f g ha hb hc hd he hf hg = rw (ha, hb, hc, hd, he, hf, hg) refl
+
+-- a frame that is behind all inputs is refused for nothing but the limit
+pub refusal-past : (p : Schedule) (input : Layer → List ℕ) (limit f : ℕ) → too_long_at p input limit f ≡ None → ((x : Layer) → length (input x) ≤ 188 * placed_before p x f) → refusal p input limit f ≡ None
+unfolding refusal
+refusal-past p input limit f soon past =
+    none_of (too_long_at p input limit f) (truncated_in p input f A) (truncated_in p input f B) (truncated_in p input f C) (bad_sync_in p input f A) (bad_sync_in p input f B) (bad_sync_in p input f C)
+    soon (truncated-ended p input f A (past A)) (truncated-ended p input f B (past B)) (truncated-ended p input f C (past C)) (sync A) (sync B) (sync C)
+  where
+    sync : (x : Layer) → bad_sync_in p input f x ≡ None
+    sync x = bad_sync-none p input f x (λ k from below there. absurd (let all = past x in omega (arith, all, from, there)))
+
+pub too_long-past : (p : Schedule) (input : Layer → List ℕ) (limit f : ℕ) → is_there p input f ≡ false → too_long_at p input limit f ≡ None
+too_long-past p input limit f gone = not_there (f == limit) (is_there p input f) gone
 
 -- ---- good inputs
 
@@ -107,10 +256,15 @@ limit_fault true false fault e = absurd (cc)
 limit_fault false there fault e = absurd (cc)
 
 -- whole packets with their sync bytes are refused for the limit alone
-pub refusal-good : (p : Schedule) (bytes : List ℕ) (limit f : ℕ) (fault : RemuxFault) → UsesAlone p → IsGood bytes → refusal p (only_a bytes) limit f ≡ Some fault → fault ≡ TooLong
+pub refusal-good : (p : Schedule) (input : Layer → List ℕ) (limit f : ℕ) (fault : RemuxFault) → ((x : Layer) → IsGood (input x)) → refusal p input limit f ≡ Some fault → fault ≡ TooLong
 unfolding refusal
-refusal-good p bytes limit f fault alone good is =
-    limit_fault (f == limit) (is_there p (only_a bytes) f) fault
-    (sym (only_first (too_long_at p (only_a bytes) limit f) (truncated_in p (only_a bytes) f A) (truncated_in p (only_a bytes) f B) (truncated_in p (only_a bytes) f C) (bad_sync_in p (only_a bytes) f A) (bad_sync_in p (only_a bytes) f B) (bad_sync_in p (only_a bytes) f C)
-    (truncated-whole p (only_a bytes) f A good.whole) (truncated-b p bytes f) (truncated-c p bytes f)
-    (bad_sync-none p (only_a bytes) f A (λ i from below there. good.sync i (omega (arith, there)))) (bad_sync-b p bytes f alone) (bad_sync-c p bytes f alone)) ∙ is)
+refusal-good p input limit f fault good is =
+    limit_fault (f == limit) (is_there p input f) fault
+    (sym (only_first (too_long_at p input limit f) (truncated_in p input f A) (truncated_in p input f B) (truncated_in p input f C) (bad_sync_in p input f A) (bad_sync_in p input f B) (bad_sync_in p input f C)
+    (whole A) (whole B) (whole C) (sync A) (sync B) (sync C)) ∙ is)
+  where
+    whole : (x : Layer) → truncated_in p input f x ≡ None
+    whole x = truncated-whole p input f x (good x).whole
+
+    sync : (x : Layer) → bad_sync_in p input f x ≡ None
+    sync x = bad_sync-none p input f x (λ i from below there. (good x).sync i (omega (arith, there)))

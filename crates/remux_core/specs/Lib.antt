@@ -1,5 +1,7 @@
 pub mod Multiplex
 pub mod Refusals
-pub mod Answers
 pub mod Parts
 pub mod Frames
+pub mod Answers
+pub mod Reading
+pub mod Judging

@@ -6,6 +6,9 @@
 
 mod fault;
 mod frame;
+mod inputs;
+mod judge;
+mod layer_input;
 mod packets;
 mod remultiplex;
 

@@ -1,92 +1,102 @@
 //! Input packets into frames.
 
-ghost use Rattle.std.specs.Prelude.{◌≡◌, ℕ, List, [], ◌*◌, ◌≤◌, ◌<◌, true, length, IfSome, IfOk};
+ghost use Rattle.std.specs.Prelude.{◌≡◌, ℕ, List, [], ◌*◌, ◌≤◌, ◌<◌, true, false, vec_len, length, IfOk, take};
 ghost use Rattle.std.specs.declared.option.Option.{Option};
-ghost use Rattle.isdbt_base.specs.declared.kinds.Layer.TheVariants.{A};
+ghost use Rattle.isdbt_base.specs.declared.kinds.Layer.{Layer as Which};
 ghost use Rattle.isdbt_base.specs.Numbers.{slots_per_frame, greatest_delay};
-ghost use Rattle.edge_io.specs.declared.shelf.Seat.TheVariants as seats;
-ghost use Rattle.remux_core.specs.Multiplex.{packet_count, data_frames};
+ghost use Rattle.frame_order.specs.LayerBytes.{layer_bytes, AreWhole};
+ghost use Rattle.remux_core.specs.Answers.{IsPlain, IsUsed, Tells, Passed, Wrote, RemuxAnswer, RemuxCause, DataAnswer, DrainAnswer, DrainCause};
 ghost use Rattle.remux_core.specs.Frames.{packets_of};
-ghost use Rattle.remux_core.specs.Answers.{UsesAlone, only_a, Passed, Wrote, RemuxAnswer, RemuxCause, DataAnswer, DrainAnswer, DrainCause};
+ghost use Rattle.remux_core.specs.Multiplex.{packet_count, data_frames};
+ghost use Rattle.remux_core.specs.Parts.{IsGood};
+ghost use Rattle.remux_core.specs.Reading.{input_of, HasSeats};
+ghost use Rattle.remux_core.specs.Refusals.{seat_of};
 
 use crate::fault::RemuxFault;
 use crate::frame::put_frame;
-use crate::packets::{PACKET, Part, judge};
-use edge_io::{Failed, Seat, Shelf, Sink, fill};
+use crate::inputs::Inputs;
+use crate::judge::fault_of;
+use edge_io::{Failed, Shelf, Sink};
 use frame_order::{FrameOrder, LayerPackets, order};
-use isdbt_base::{Layer, Plan, slots};
+use isdbt_base::{Plan, slots};
 use std::alloc::Global;
 
 /// Bytes of a broadcast packet.
 const BROADCAST_PACKET: usize = 204;
+
+/// The packets that were read for a frame.
+fn packets_of(inputs: &Inputs) -> LayerPackets<'_>
+    requires { (x : Which) → IsGood (take (input_of inputs.now x).count (input_of inputs.now x).bytes.items) }
+    ensures bytes { (x : Which) → layer_bytes result x ≡ take (input_of inputs.now x).count (input_of inputs.now x).bytes.items }
+    ensures whole { AreWhole result }
+{
+    LayerPackets {
+        a: inputs.a.part(),
+        b: inputs.b.part(),
+        c: inputs.c.part(),
+    }
+}
+
+/// No packets.
+fn no_packets() -> LayerPackets<'static>
+    ensures bytes { (x : Which) → layer_bytes result x ≡ [] }
+    ensures whole { AreWhole result }
+{
+    LayerPackets {
+        a: &[],
+        b: &[],
+        c: &[],
+    }
+}
 
 /// The frames with input packets: reads, judges and writes one after another, and answers how many there are.
 fn write_data<H: Shelf, K: Sink>(
     plan: &Plan,
     order: &FrameOrder,
     limit: u32,
-    input: &mut [u8],
+    inputs: &mut Inputs,
     out: &mut [u8],
     shelf: &mut H,
     sink: &mut K,
 ) -> Result<u32, RemuxFault>
-    requires alone { UsesAlone plan.now }
+    requires plain { IsPlain plan.now }
     requires order { order.now ≡ plan.now.first }
-    requires input { length input.old ≡ 188 * packets_of plan.now.first A }
-    requires packets { 0 < packets_of plan.now.first A }
-    requires small { packets_of plan.now.first A ≤ 3276 }
+    requires seats { HasSeats inputs.old }
+    requires room { (x : Which) → vec_len (input_of inputs.old x).bytes ≡ 188 * packets_of plan.now.first x }
+    requires small { (x : Which) → packets_of plan.now.first x ≤ 3276 }
+    requires used { (x : Which) → 0 < packets_of plan.now.first x → (input_of inputs.old x).ended ≡ false }
+    requires unused { (x : Which) → packets_of plan.now.first x ≡ 0 → (input_of inputs.old x).ended ≡ true }
     requires out { length out.old ≡ 204 * slots_per_frame order.now.mode order.now.guard }
     requires some { 0 < limit }
     requires few { limit ≤ 16777216 }
-    requires open { H.is_open shelf.old seats.A ≡ true }
+    requires open { (x : Which) → IsUsed plan.now x → H.is_open shelf.old (seat_of x) ≡ true }
     ensures within { IfOk result (λ frames. frames ≤ limit) }
-    ensures answer { IfSome (H.left shelf.old seats.A) (λ bytes.
-        DataAnswer plan.now bytes limit (K.written sink.old) (K.written sink.new) (H.left shelf.new seats.A) result) }
-    ensures cause { RemuxCause (H.faults shelf.old) (H.faults shelf.new) (K.faults sink.old) (K.faults sink.new) result }
+    ensures answer { (input : Which → List ℕ) → Tells plan.now (H.left shelf.old) input
+        → DataAnswer plan.now input limit (K.written sink.old) (K.written sink.new) (H.left shelf.new) result }
+    ensures cause { RemuxCause plan.now (H.faults shelf.old) (H.faults shelf.new) (K.faults sink.old) (K.faults sink.new) result }
     ensures room { K.room sink.new ≡ K.room sink.old }
 {
-    let packets = (input.len() / PACKET) as u64;
     for frame in 0..limit {
-        let Ok(count) = fill(shelf, Seat::A, input) else {
-            return Err(RemuxFault::ReadFault(Seat::A));
-        };
-        if count == 0 {
+        match inputs.read(shelf) {
+            Ok(()) => {}
+            Err(seat) => return Err(RemuxFault::ReadFault(seat)),
+        }
+        if inputs.is_empty() {
             return Ok(frame);
         }
-        let part = &input[..count];
-        match judge(part) {
-            Part::Cut(over) => {
-                return Err(RemuxFault::Truncated {
-                    seat: Seat::A,
-                    over,
-                });
-            }
-            Part::NoSync(index) => {
-                return Err(RemuxFault::BadSync {
-                    seat: Seat::A,
-                    packet: u64::from(frame) * packets + u64::from(index),
-                });
-            }
-            Part::Good => {}
+        match fault_of(inputs, frame) {
+            Some(fault) => return Err(fault),
+            None => {}
         }
-        match put_frame(plan, order, frame, &layer_a(part), out, sink) {
+        match put_frame(plan, order, frame, &packets_of(inputs), out, sink) {
             Ok(()) => {}
             Err(Failed) => return Err(RemuxFault::WriteFault),
         }
-        if count < input.len() {
+        if inputs.have_ended() {
             return Ok(frame + 1);
         }
     }
     Err(RemuxFault::TooLong)
-}
-
-/// Packets of layer A alone.
-fn layer_a(a: &[u8]) -> LayerPackets<'_>
-    ensures a { result.a.now ≡ a.now }
-    ensures b { result.b.now ≡ [] }
-    ensures c { result.c.now ≡ [] }
-{
-    LayerPackets { a, b: &[], c: &[] }
 }
 
 /// The frames of null packets behind the data: as many as the delay, if there was data.
@@ -99,17 +109,16 @@ fn drain<K: Sink>(
     out: &mut [u8],
     sink: &mut K,
 ) -> Result<u32, RemuxFault>
-    requires alone { UsesAlone plan.now }
+    requires plain { IsPlain plan.now }
     requires order { order.now ≡ plan.now.first }
-    requires packets { 0 < packets_of plan.now.first A }
     requires out { length out.old ≡ 204 * slots_per_frame order.now.mode order.now.guard }
     requires delay { delay ≡ greatest_delay plan.now.first.mode plan.now.first.setting }
     requires short { delay ≤ 10 }
     requires frames { frames ≤ limit }
     requires few { limit ≤ 16777216 }
-    ensures answer { (bytes : List ℕ) (before : Option (List ℕ)) → frames ≡ data_frames plan.now (packet_count (only_a bytes))
-        → Passed plan.now (only_a bytes) limit frames → Wrote plan.now (only_a bytes) frames before (K.written sink.old)
-        → DrainAnswer plan.now (only_a bytes) limit before (K.written sink.new) result }
+    ensures answer { (input : Which → List ℕ) (before : Option (List ℕ)) → ((x : Which) → packets_of plan.now.first x ≡ 0 → input x ≡ [])
+        → frames ≡ data_frames plan.now (packet_count input) → Passed plan.now input limit frames → Wrote plan.now input frames before (K.written sink.old)
+        → DrainAnswer plan.now input limit before (K.written sink.new) result }
     ensures cause { DrainCause (K.faults sink.old) (K.faults sink.new) result }
     ensures room { K.room sink.new ≡ K.room sink.old }
 {
@@ -121,7 +130,7 @@ fn drain<K: Sink>(
         if frame >= limit {
             return Err(RemuxFault::TooLong);
         }
-        match put_frame(plan, order, frame, &layer_a(&[]), out, sink) {
+        match put_frame(plan, order, frame, &no_packets(), out, sink) {
             Ok(()) => {}
             Err(Failed) => return Err(RemuxFault::WriteFault),
         }
@@ -129,8 +138,8 @@ fn drain<K: Sink>(
     Ok(end)
 }
 
-/// Writes the frames of a plan and of the input at seat A, at most `limit` of them, and answers how many were written.
-/// Frame after frame is read, judged and written: no byte past the frame in work is asked for.
+/// Writes the frames of a plan and of the inputs at the seats of its layers, at most `limit` of them, and answers how many
+/// were written. Frame after frame is read, layer A first, judged and written: no byte past the frame in work is asked for.
 ///
 /// All memory is taken before the first read, so want of memory comes with nothing read and nothing written.
 pub fn remux<H: Shelf, K: Sink>(
@@ -140,28 +149,28 @@ pub fn remux<H: Shelf, K: Sink>(
     shelf: &mut H,
     sink: &mut K,
 ) -> Result<u32, RemuxFault>
-    requires alone { UsesAlone plan.now }
+    requires no_switch { plan.now.switches ≡ [] }
     requires some { 0 < limit }
     requires few { limit ≤ 16777216 }
-    requires open { H.is_open shelf.old seats.A ≡ true }
-    ensures answer { IfSome (H.left shelf.old seats.A) (λ bytes.
-        RemuxAnswer plan.now (only_a bytes) limit (K.written sink.old) (K.written sink.new) (H.left shelf.new seats.A) result) }
-    ensures cause { RemuxCause (H.faults shelf.old) (H.faults shelf.new) (K.faults sink.old) (K.faults sink.new) result }
+    requires open { (x : Which) → IsUsed plan.now x → H.is_open shelf.old (seat_of x) ≡ true }
+    ensures answer { (input : Which → List ℕ) → Tells plan.now (H.left shelf.old) input
+        → RemuxAnswer plan.now input limit (K.written sink.old) (K.written sink.new) (H.left shelf.new) result }
+    ensures cause { RemuxCause plan.now (H.faults shelf.old) (H.faults shelf.new) (K.faults sink.old) (K.faults sink.new) result }
     ensures room { K.room sink.new ≡ K.room sink.old }
 {
+    plan.acceptance_law();
     let at = plan.at(0);
     let Ok(order) = order(alloc, &at.setting, at.mode, at.guard) else {
         return Err(RemuxFault::NoMemory);
     };
-    let packets = at.setting.packets(Layer::A, at.mode) as usize;
-    let Ok(mut input) = vec![in alloc; 0; PACKET * packets] else {
+    let Ok(mut inputs) = Inputs::open(alloc, &at.setting, at.mode) else {
         return Err(RemuxFault::NoMemory);
     };
     let slots = slots(at.mode, at.guard) as usize;
     let Ok(mut out) = vec![in alloc; 0; BROADCAST_PACKET * slots] else {
         return Err(RemuxFault::NoMemory);
     };
-    let frames = match write_data(plan, &order, limit, &mut input, &mut out, shelf, sink) {
+    let frames = match write_data(plan, &order, limit, &mut inputs, &mut out, shelf, sink) {
         Ok(frames) => frames,
         Err(fault) => return Err(fault),
     };

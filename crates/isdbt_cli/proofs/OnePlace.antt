@@ -1,0 +1,52 @@
+-- Words are of one command at most, and have one place of a fault, or are a command's.
+use Rattle.std.proofs.Common.{◌≡◌, ℕ, ◌+◌, ◌<◌, ◌≤◌, List, [], ◌∷◌, ◌++◌, length, take, drop, sym, ap, ◌∙◌, subst, arith, take-append-drop, append_assoc, inl, inr}
+use Rattle.std.specs.Prelude.{codes, is_some}
+use Rattle.std.proofs.lemmas.List.{take-take, take_all, append-nil}
+use Rattle.std.proofs.lemmas.Bool.{cases_lt}
+use Rattle.isdbt_base.specs.Plans.{Schedule}
+use Rattle.isdbt_cli.specs.CommandLines.{Word, transmission_words, Command, remux, Spells, CanGoOn, IsFaultAt}
+use Rattle.isdbt_cli.proofs.Spelling.{same_transmission, words_of-remux, names_words, same_names}
+
+-- ---- the place is one
+
+-- fewer words can go on too
+fewer : (words : List Word) (k m : ℕ) → k ≤ m → CanGoOn (take m words) → CanGoOn (take k words)
+fewer words k m le g =
+    let parts : take k words ++ drop k (take m words) ≡ take m words = ap (λ xs. xs ++ drop k (take m words)) (sym (take-take k m words le)) ∙ take-append-drop k (take m words) in
+    (g.0, drop k (take m words) ++ g.1, subst (λ (ws : List Word). Spells ws g.0) (ap (λ xs. xs ++ g.1) (sym parts) ∙ append_assoc (take k words) (drop k (take m words)) g.1) g.2)
+
+pub one_place : (words : List Word) (p q : ℕ) → IsFaultAt words p → IsFaultAt words q → p ≡ q
+one_place words p q f g =
+    elim (cases_lt p q) [
+      | inl before ↦ absurd (early words p q f g before)
+      | inr after ↦ elim (cases_lt q p) [
+        | inl before ↦ absurd (early words q p g f before)
+        | inr same ↦ omega (arith, after, same)
+      ]
+    ]
+  where
+    early : (words : List Word) (p q : ℕ) → IsFaultAt words p → IsFaultAt words q → p < q → ⊥
+    early words p q f g less = (let k = g.within in f.fault (omega (arith, less, k)) (fewer words (p + 1) q (omega (arith, less)) g.before))
+
+-- a command's words have no fault
+pub no_place : (words : List Word) (c : Command) (p : ℕ) → Spells words c → IsFaultAt words p → ⊥
+no_place words c p s f =
+    elim (cases_lt p (length words)) [
+      | inl less ↦ f.fault less (fewer words (p + 1) (length words) (omega (arith, less)) (c, [], subst (λ (ws : List Word). Spells ws c) (sym (append-nil (take (length words) words) ∙ take_all (length words) words (omega arith))) s))
+      | inr past ↦ (let k = f.within in f.short (omega (arith, past, k)) c s)
+    ]
+
+-- ---- the command is one
+
+same_plan : (p q : Schedule) → p.switches ≡ [] → q.switches ≡ [] → p.first ≡ q.first → p ≡ q
+same_plan p q none none' first = ap (λ v. record { first = v; switches = p.switches }) first ∙ ap (λ v. record { first = q.first; switches = v }) (none ∙ sym none')
+
+pub one_command : (words : List Word) (c d : Command) → Spells words c → Spells words d → c ≡ d
+one_command words (remux p a b c) (remux q a' b' c') s t =
+    let lines : codes "remux" ∷ (transmission_words p.first ++ names_words a b c) ≡ codes "remux" ∷ (transmission_words q.first ++ names_words a' b' c') = sym (words_of-remux p a b c) ∙ sym s.spelled ∙ t.spelled ∙ words_of-remux q a' b' c' in
+    let sent = same_transmission p.first q.first (names_words a b c) (names_words a' b' c') s.command.plan.accepted.first t.command.plan.accepted.first (ap (drop 1) lines) in
+    let plans = same_plan p q s.command.plan.no_switch t.command.plan.no_switch sent.0 in
+    let used_b : is_some b ≡ is_some b' = s.command.b_used ∙ ap (λ x. is_some x.setting.b) sent.0 ∙ sym t.command.b_used in
+    let used_c : is_some c ≡ is_some c' = s.command.c_used ∙ ap (λ x. is_some x.setting.c) sent.0 ∙ sym t.command.c_used in
+    let names = same_names a a' b b' c c' used_b used_c sent.1 in
+    ap (λ x. remux x a b c) plans ∙ ap (λ x. remux q x b c) names.0 ∙ ap (λ x. remux q a' x c) names.1 ∙ ap (λ x. remux q a' b' x) names.2

@@ -1,0 +1,34 @@
+-- Worked command lines.
+use Rattle.std.proofs.Common.{◌≡◌, [], ◌∷◌, true, false, None, Some, refl}
+use Rattle.std.specs.Prelude.{codes}
+use Rattle.std.specs.Fmt.{digits}
+use Rattle.isdbt_base.specs.declared.kinds.Mode.TheVariants.{M1, M2, M3}
+use Rattle.isdbt_base.specs.declared.kinds.Guard.TheVariants.{G4, G8, G32}
+use Rattle.isdbt_base.specs.declared.kinds.Modulation.TheVariants.{Qpsk, Qam16, Qam64}
+use Rattle.isdbt_base.specs.declared.kinds.Rate.TheVariants.{R12, R23, R34, R56, R78}
+use Rattle.isdbt_base.specs.declared.kinds.DepthCode.TheVariants.{D0, D1, D2, D3}
+use Rattle.isdbt_cli.specs.CommandLines.{setting_word, remux, words_of}
+
+-- one layer
+one_layer : words_of (remux (record { first = record { mode = M1; guard = G4; setting = record { partial = false; a = record { segments = 13; modulation = Qpsk; rate = R12; depth = D0 }; b = None; c = None } }; switches = [] }) (codes "a.ts") None None)
+    ≡ codes "remux" ∷ codes "1" ∷ codes "1/4" ∷ codes "A:13:qpsk:1/2:0" ∷ codes "A=a.ts" ∷ []
+unfolding words_of digits
+one_layer = refl
+
+-- partial reception and a wide layer
+partial_and_wide : words_of (remux (record { first = record { mode = M3; guard = G8; setting = record { partial = true; a = record { segments = 1; modulation = Qpsk; rate = R23; depth = D3 }; b = Some (record { segments = 12; modulation = Qam64; rate = R34; depth = D2 }); c = None } }; switches = [] }) (codes "a") (Some (codes "b")) None)
+    ≡ codes "remux" ∷ codes "3" ∷ codes "1/8" ∷ codes "A:1:qpsk:2/3:4:partial,B:12:64qam:3/4:2" ∷ codes "A=a" ∷ codes "B=b" ∷ []
+unfolding words_of digits
+partial_and_wide = refl
+
+-- three layers
+three_layers : words_of (remux (record { first = record { mode = M1; guard = G32; setting = record { partial = false; a = record { segments = 1; modulation = Qpsk; rate = R12; depth = D0 }; b = Some (record { segments = 6; modulation = Qam16; rate = R23; depth = D2 }); c = Some (record { segments = 6; modulation = Qam64; rate = R78; depth = D3 }) } }; switches = [] }) (codes "a") (Some (codes "b")) (Some (codes "c")))
+    ≡ codes "remux" ∷ codes "1" ∷ codes "1/32" ∷ codes "A:1:qpsk:1/2:0,B:6:16qam:2/3:8,C:6:64qam:7/8:16" ∷ codes "A=a" ∷ codes "B=b" ∷ codes "C=c" ∷ []
+unfolding words_of digits
+three_layers = refl
+
+-- the same lengths of time interleaving in mode 2
+mode_2 : setting_word M2 (record { partial = false; a = record { segments = 6; modulation = Qam64; rate = R56; depth = D3 }; b = Some (record { segments = 7; modulation = Qpsk; rate = R12; depth = D1 }); c = None })
+    ≡ codes "A:6:64qam:5/6:8,B:7:qpsk:1/2:2"
+unfolding digits
+mode_2 = refl

@@ -1,0 +1,20 @@
+use Rattle.std.proofs.Common.{subst, sym, refl, ◌≡◌, map, string_bytes}
+use Rattle.std.specs.Prelude.{codes}
+use Rattle.std.proofs.lemmas.Result.{err_from_is_err_and}
+use Rattle.isdbt_cli.specs.Parsing.{Unread, IsStuck}
+use Rattle.isdbt_cli.proofs.Stuck.{AnyCommand, fault_at}
+use Rattle.isdbt_cli.proofs.Spelling.{no_words, no_command, whole_line}
+use Rattle.isdbt_cli.proofs.grammar.any_command.Goals as goal
+
+pub returns-in_err-word : goal.returns-in_err-word
+returns-in_err-word c =
+    let p = err_from_is_err_and c.from_residual.result c.from_residual.ensures.1 in
+    rw (p.1, p.2) (fault_at (map string_bytes c.args.list.now) c.in_err-word.field-0.0 (subst (λ (u : Unread). IsStuck AnyCommand u c.in_err-word.field-0.0) c.new-words.ensures (no_words c.new-words.result c.in_err-word.field-0.0 c.in_err-word.ensures.err)))
+
+pub returns-in-remux : goal.returns-in-remux
+returns-in-remux c = whole_line (codes "remux") (map string_bytes c.args.list.now) c.new-words.result c.word.new.self c.in_ok-word.field-0.now c.remux.result c.new-words.ensures c.in_ok-word.ensures.ok c.in-remux.is c.remux.ensures
+
+pub returns-in_default : goal.returns-in_default
+returns-in_default c =
+    fault_at (map string_bytes c.args.list.now) 0 (subst (λ (u : Unread). IsStuck AnyCommand u 0) c.new-words.ensures
+    (no_command c.new-words.result c.word.new.self c.in_ok-word.field-0.now 0 (subst (λ (u : Unread). 0 ≡ u.place) (sym c.new-words.ensures) refl) c.in_ok-word.ensures.ok c.in_default.not-remux))

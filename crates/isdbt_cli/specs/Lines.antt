@@ -1,0 +1,35 @@
+-- The line that an outcome writes to standard error.
+use Rattle.std.specs.Prelude.{◌≡◌, ℕ, ◌≤◌, List, [], ◌∷◌, ◌++◌, length, take, codes, decimal}
+use Rattle.std.specs.declared.option.Option.{Option}
+use Rattle.edge_io.specs.declared.shelf.Seat.{Seat}
+use Rattle.edge_io.specs.declared.shelf.Seat.TheVariants as seats
+use Rattle.edge_io.specs.Known.{append_known}
+use Rattle.edge_io.specs.Causes.{Rose}
+use Rattle.isdbt_cli.specs.declared.fault.Outcome.{Outcome}
+use Rattle.isdbt_cli.specs.declared.fault.Outcome.TheVariants.{Done, Fault}
+use Rattle.isdbt_cli.specs.declared.fault.RunFault.TheVariants.{Usage, BadSync, Truncated, OpenFault, ReadFault, WriteFault, TooLong, NoMemory}
+use Rattle.isdbt_cli.specs.CommandLines.{Word}
+
+abbrev pub seat_text : Seat → Word
+seat_text seats.A = codes "A"
+seat_text seats.B = codes "B"
+seat_text seats.C = codes "C"
+seat_text seats.In = codes "IN"
+
+-- a fault's line with its line feed, and nothing where the command is done
+abbrev pub line_of : Outcome → Word
+line_of (Done frames) = []
+line_of (Fault (Usage word)) = codes "isdbt: 1 usage: word " ++ decimal word ++ 10 ∷ []
+line_of (Fault (BadSync seat packet)) = codes "isdbt: 2 no sync byte: input " ++ seat_text seat ++ codes " packet " ++ decimal packet ++ 10 ∷ []
+line_of (Fault (Truncated seat over)) = codes "isdbt: 3 truncated: input " ++ seat_text seat ++ codes " over " ++ decimal over ++ 10 ∷ []
+line_of (Fault (OpenFault seat)) = codes "isdbt: 10 cannot open: " ++ seat_text seat ++ 10 ∷ []
+line_of (Fault (ReadFault seat)) = codes "isdbt: 11 read fault: " ++ seat_text seat ++ 10 ∷ []
+line_of (Fault WriteFault) = codes "isdbt: 12 write fault" ++ 10 ∷ []
+line_of (Fault TooLong) = codes "isdbt: 13 too long" ++ 10 ∷ []
+line_of (Fault NoMemory) = codes "isdbt: 14 no memory" ++ 10 ∷ []
+
+-- the line was written, or a front part of it where a write failed
+pub record IsTold (line : Word) (before after : Option (List ℕ)) (faults faults' : ℕ) : Type 0 where
+  pub sent : ℕ
+  pub written : after ≡ append_known before (take sent line)
+  pub whole : (Rose faults faults' → ⊥) → length line ≤ sent

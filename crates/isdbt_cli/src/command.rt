@@ -1,0 +1,15 @@
+//! What a command line asks for.
+
+use isdbt_base::Plan;
+
+/// A command, as its words say it.
+#[derive(Debug, Drop)]
+pub enum Command<'a> {
+    /// Remultiplexes the inputs of these names, one for each layer that the plan uses.
+    Remux {
+        plan: Plan,
+        a: &'a str,
+        b: Option<&'a str>,
+        c: Option<&'a str>,
+    },
+}
