@@ -1,3 +1,4 @@
+pub mod Bits
 pub mod LayerParameters
 pub mod Parameters
 pub mod Plans
