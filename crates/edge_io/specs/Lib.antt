@@ -5,6 +5,8 @@ pub mod Known
 pub mod MemoryShelf
 pub mod MemorySink
 pub mod Places
+pub mod QuietShelf
+pub mod QuietSink
 pub mod Seats
 pub mod Source
 pub mod StreamSink

@@ -5,7 +5,8 @@ ghost use Rattle.edge_io.specs.MemoryShelf.{is_seat_open};
 ghost use Rattle.edge_io.specs.declared.shelf.Seat.TheVariants.{A, B};
 
 use crate::{
-    Failed, FileShelf, MemoryShelf, MemorySink, Seat, Shelf, Sink, StreamSink, fill, write_whole,
+    Failed, FileShelf, MemoryShelf, MemorySink, QuietShelf, QuietSink, Seat, Shelf, Sink,
+    StreamSink, fill, write_whole,
 };
 use std::alloc::Global;
 use std::io::{Error, ErrorKind, Write};
@@ -247,5 +248,35 @@ fn writes_to_a_stream(rt: HostRuntime) -> Result<(), Fail> {
     write_whole(&mut sink, b"abc")?;
     write_whole(&mut sink, b"def")?;
     assert_eq!(rt; bytes.as_slice(), b"abcdef".as_slice());
+    Ok(())
+}
+
+/// What a quiet shelf, on which `ten` holds ten bytes, gives of a name into four bytes, read after read.
+fn quiet_reads(alloc: Global, name: &str) -> Result<[usize; 4], Fail> {
+    let mut shelf = QuietShelf::new(alloc);
+    shelf.put("ten", b"abcdefghij")?;
+    shelf.open(Seat::A, name)?;
+    let mut buf = [0u8; 4];
+    Ok([
+        read_a(&mut shelf, &mut buf)?,
+        read_a(&mut shelf, &mut buf)?,
+        read_a(&mut shelf, &mut buf)?,
+        read_a(&mut shelf, &mut buf)?,
+    ])
+}
+
+#[test]
+fn quiet_names_hold_what_was_put(rt: HostRuntime) -> Result<(), Fail> {
+    assert_eq!(rt; quiet_reads(rt.alloc(), "ten")?, [4, 4, 2, 0]);
+    assert_eq!(rt; quiet_reads(rt.alloc(), "eleven")?, [0, 0, 0, 0]);
+    Ok(())
+}
+
+#[test]
+fn quiet_sink_counts_bytes(rt: HostRuntime) -> Result<(), Fail> {
+    let mut sink = QuietSink::new();
+    assert_eq!(rt; sink.write(b"abc"), Ok(3));
+    write_whole(&mut sink, b"defg")?;
+    assert_eq!(rt; sink.count(), 7);
     Ok(())
 }

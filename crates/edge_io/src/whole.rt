@@ -1,6 +1,6 @@
 // Reads and writes that go on until all is done.
-ghost use Rattle.std.specs.Prelude.{◌≡◌, ℕ, ◌+◌, ◌++◌, [], ◌<◌, ◌≤◌, true, length, take, min, IsOk, OnOk, OnErr, IfOk, IfSome};
-ghost use Rattle.edge_io.specs.Known.{drop_known, append_known};
+ghost use Rattle.std.specs.Prelude.{◌≡◌, ℕ, ◌+◌, ◌++◌, [], ◌<◌, ◌≤◌, true, length, take, min, OnOk, OnErr, IfOk, IfSome};
+ghost use Rattle.edge_io.specs.Known.{drop_known, append_known, ReachesRoom};
 ghost use Rattle.edge_io.specs.Causes.{Reading, ShelfCause, HasCause};
 ghost use Rattle.edge_io.specs.Seats.{OthersKeep};
 
@@ -72,8 +72,9 @@ pub fn write_whole<K: Sink>(sink: &mut K, bytes: &[u8]) -> Result<(), Failed>
     // After a failure it has written the first n bytes, fewer than all.
     ensures some { OnErr result ((n : ℕ) × (n < length bytes.now) × (K.written sink.new ≡ append_known (K.written sink.old) (take n bytes.now))) }
     ensures room { K.room sink.new ≡ K.room sink.old }
-    ensures within_room { IfSome (K.room sink.old) (λ limit. IfSome (K.written sink.old) (λ before.
-        length before + length bytes.now ≤ limit → IsOk result)) }
+
+    // Where room and content are told, it fails only where what was written reaches the room.
+    ensures reached { OnErr result (ReachesRoom (K.room sink.old) (K.written sink.new)) }
     ensures cause { HasCause (K.faults sink.old) (K.faults sink.new) result }
 {
     let mut at = 0;

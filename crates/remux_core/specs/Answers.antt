@@ -9,7 +9,7 @@ use Rattle.isdbt_base.specs.Numbers.{layer_delay}
 use Rattle.isdbt_base.specs.Plans.{Schedule}
 use Rattle.isdbt_base.specs.Outcome.{ArePassed, IsOutcome, product}
 use Rattle.edge_io.specs.declared.shelf.Seat.{Seat}
-use Rattle.edge_io.specs.Known.{append_known}
+use Rattle.edge_io.specs.Known.{append_known, ReachesRoom}
 use Rattle.edge_io.specs.Causes.{Rose, Cause, Reading}
 use Rattle.remux_core.specs.declared.fault.RemuxFault.{RemuxFault}
 use Rattle.remux_core.specs.declared.fault.RemuxFault.TheVariants.{ReadFault, WriteFault, TooLong, NoMemory}
@@ -121,6 +121,11 @@ abbrev pub RemuxCause : Schedule → (Cause → ℕ) → (Cause → ℕ) → ℕ
 RemuxCause p shelf shelf' sink sink' (Err (ReadFault seat)) = ((x : Layer) × IsUsed p x × (seat ≡ seat_of x)) × Rose (shelf (Reading seat)) (shelf' (Reading seat)) × (sink' ≡ sink)
 RemuxCause p shelf shelf' sink sink' (Err WriteFault) = (shelf' ≡ shelf) × Rose sink sink'
 RemuxCause p shelf shelf' sink sink' result = (shelf' ≡ shelf) × (sink' ≡ sink)
+
+-- a write fault comes only where what was written reaches the sink's room; no other answer comes where the sink's count rose
+abbrev pub RoomAnswer : Option ℕ → Option (List ℕ) → Result ℕ RemuxFault → Type 0
+RoomAnswer room after (Err WriteFault) = ReachesRoom room after
+RoomAnswer room after result = Unit {0}
 
 -- a plan without switches, whose setting is accepted
 pub record IsPlain (p : Schedule) : Type 0 where

@@ -3,7 +3,7 @@
 ghost use Rattle.std.specs.Prelude.{◌≡◌, ℕ, ◌*◌, ◌<◌, length, take, OnOk, OnErr};
 ghost use Rattle.isdbt_base.specs.Numbers.{slots_per_frame};
 ghost use Rattle.isdbt_base.specs.Plans.{at_frame};
-ghost use Rattle.edge_io.specs.Known.{append_known};
+ghost use Rattle.edge_io.specs.Known.{append_known, ReachesRoom};
 ghost use Rattle.edge_io.specs.Causes.{HasCause};
 ghost use Rattle.frame_order.specs.LayerBytes.{layer_packet, AreWhole};
 ghost use Rattle.remux_core.specs.Multiplex.{frame_tag};
@@ -44,6 +44,7 @@ pub fn put_frame<K: Sink>(
         × (K.written sink.new ≡ append_known (K.written sink.old)
         (take n (frame_made plan.now order.now frame (layer_packet packets.now))))) }
     ensures room { K.room sink.new ≡ K.room sink.old }
+    ensures reached { OnErr result (ReachesRoom (K.room sink.old) (K.written sink.new)) }
     ensures cause { HasCause (K.faults sink.old) (K.faults sink.new) result }
 {
     order.write(&tag_of(plan, frame), packets, out);

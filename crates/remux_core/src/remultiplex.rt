@@ -5,7 +5,7 @@ ghost use Rattle.std.specs.declared.option.Option.{Option};
 ghost use Rattle.isdbt_base.specs.declared.kinds.Layer.{Layer as Which};
 ghost use Rattle.isdbt_base.specs.Numbers.{slots_per_frame, greatest_delay};
 ghost use Rattle.frame_order.specs.LayerBytes.{layer_bytes, AreWhole};
-ghost use Rattle.remux_core.specs.Answers.{IsPlain, IsUsed, Tells, Passed, Wrote, RemuxAnswer, RemuxCause, DataAnswer, DrainAnswer, DrainCause};
+ghost use Rattle.remux_core.specs.Answers.{IsPlain, IsUsed, Tells, Passed, Wrote, RemuxAnswer, RemuxCause, RoomAnswer, DataAnswer, DrainAnswer, DrainCause};
 ghost use Rattle.remux_core.specs.Frames.{packets_of};
 ghost use Rattle.remux_core.specs.Multiplex.{packet_count, data_frames};
 ghost use Rattle.remux_core.specs.Parts.{IsGood};
@@ -75,6 +75,7 @@ fn write_data<H: Shelf, K: Sink>(
         → DataAnswer plan.now input limit (K.written sink.old) (K.written sink.new) (H.left shelf.new) result }
     ensures cause { RemuxCause plan.now (H.faults shelf.old) (H.faults shelf.new) (K.faults sink.old) (K.faults sink.new) result }
     ensures room { K.room sink.new ≡ K.room sink.old }
+    ensures reached { RoomAnswer (K.room sink.old) (K.written sink.new) result }
 {
     for frame in 0..limit {
         match inputs.read(shelf) {
@@ -121,6 +122,7 @@ fn drain<K: Sink>(
         → DrainAnswer plan.now input limit before (K.written sink.new) result }
     ensures cause { DrainCause (K.faults sink.old) (K.faults sink.new) result }
     ensures room { K.room sink.new ≡ K.room sink.old }
+    ensures reached { RoomAnswer (K.room sink.old) (K.written sink.new) result }
 {
     if frames == 0 {
         return Ok(0);
@@ -156,7 +158,10 @@ pub fn remux<H: Shelf, K: Sink>(
     ensures answer { (input : Which → List ℕ) → Tells plan.now (H.left shelf.old) input
         → RemuxAnswer plan.now input limit (K.written sink.old) (K.written sink.new) (H.left shelf.new) result }
     ensures cause { RemuxCause plan.now (H.faults shelf.old) (H.faults shelf.new) (K.faults sink.old) (K.faults sink.new) result }
+
+    // The sink's room stays, and a write fails only where what was written reaches it.
     ensures room { K.room sink.new ≡ K.room sink.old }
+    ensures reached { RoomAnswer (K.room sink.old) (K.written sink.new) result }
 {
     plan.acceptance_law();
     let at = plan.at(0);
