@@ -73,6 +73,7 @@ fn write_data<H: Shelf, K: Sink>(
     ensures within { IfOk result (λ frames. frames ≤ limit) }
     ensures answer { (input : Which → List ℕ) → Tells plan.now (H.left shelf.old) input
         → DataAnswer plan.now input limit (K.written sink.old) (K.written sink.new) (H.left shelf.new) result }
+    ensures still_open { H.is_open shelf.new ≡ H.is_open shelf.old }
     ensures cause { RemuxCause plan.now (H.faults shelf.old) (H.faults shelf.new) (K.faults sink.old) (K.faults sink.new) result }
     ensures room { K.room sink.new ≡ K.room sink.old }
     ensures reached { RoomAnswer (K.room sink.old) (K.written sink.new) result }
@@ -157,6 +158,7 @@ pub fn remux<H: Shelf, K: Sink>(
     requires open { (x : Which) → IsUsed plan.now x → H.is_open shelf.old (seat_of x) ≡ true }
     ensures answer { (input : Which → List ℕ) → Tells plan.now (H.left shelf.old) input
         → RemuxAnswer plan.now input limit (K.written sink.old) (K.written sink.new) (H.left shelf.new) result }
+    ensures still_open { H.is_open shelf.new ≡ H.is_open shelf.old }
     ensures cause { RemuxCause plan.now (H.faults shelf.old) (H.faults shelf.new) (K.faults sink.old) (K.faults sink.new) result }
 
     // The sink's room stays, and a write fails only where what was written reaches it.

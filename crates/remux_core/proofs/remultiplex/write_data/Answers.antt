@@ -17,6 +17,7 @@ loop-frame-init g c = record {
   is_open = λ x goes. elim (cases_lt 0 (packets_of c.args.plan.now.first x)) [ inl some ↦ c.requires.«open» x some | inr none ↦ absurd (let e = c.requires.unused x (omega (arith, none)) in cc) ];
   told = λ input tells. begin _ input _ _ _ _ c.requires.plain c.requires.room c.requires.used c.requires.unused tells;
   room = refl;
+  still_open = refl;
   shelf_kept = refl;
   sink_kept = refl;
 }
@@ -82,6 +83,7 @@ loop-frame-preserved g c = record {
       let made = made_of_read _ _ input c.loop-frame.frame _ c.packets_of.result c.requires.plain c.requires.order c.packets_of.ensures.bytes turn.read.each in
       next _ input _ c.loop-frame.frame _ _ _ _ _ _ _ c.requires.plain turn (c.in-None.ensures.good refl) (sym why) (some_more _ input _ c.loop-frame.frame _ _ _ _ _ _ turn some.0 some.1) (wrote_all _ _ _ _ made c.in-Ok-put_frame.ensures.ok));
   room = search rules;
+  still_open = c.in-Ok.ensures.still_open ∙ c.loop-frame.invariant.still_open;
   shelf_kept = search rules;
   sink_kept = search rules;
 }

@@ -15,6 +15,7 @@ invariant-loop-frame g l = record {
   is_open : (x : Layer) → (input_of l.inputs x).ended ≡ false → g.H.Shelf.is_open l.shelf (seat_of x) ≡ true;
   told : (input : Layer → List ℕ) → Tells l.plan (g.H.Shelf.left l.initial.shelf) input → Progress l.plan input l.limit l.frame l.inputs (g.H.Shelf.left l.shelf) (g.K.Sink.written l.initial.sink) (g.K.Sink.written l.sink);
   room : g.K.Sink.room l.sink ≡ g.K.Sink.room l.initial.sink;
+  still_open : g.H.Shelf.is_open l.shelf ≡ g.H.Shelf.is_open l.initial.shelf;
   shelf_kept : g.H.Shelf.faults l.shelf ≡ g.H.Shelf.faults l.initial.shelf;
   sink_kept : g.K.Sink.faults l.sink ≡ g.K.Sink.faults l.initial.sink;
 }
