@@ -36,7 +36,7 @@ unused_name p a b c B r none = none_of b (r.b_used ∙ ap is_some (unused-none p
 unused_name p a b c C r none = none_of c (r.c_used ∙ ap is_some (unused-none p C (plain p a b c r) none))
 
 pub used_open : (p : Schedule) (a : Word) (b c : Option Word) (holds : Word → Option (List ℕ)) (left : Seat → Option (List ℕ)) (is_open : Seat → Bool) → IsRemux p a b c → AreOpened (names_of a b c) holds left is_open → (x : Layer) → IsUsed p x → is_open (seat_of x) ≡ true
-used_open p a b c holds left is_open r o x used = (let n = used_name p a b c x r used in o.opened x n.0 n.1)
+used_open p a b c holds left is_open r o x used = (let n = used_name p a b c x r used in o.seats.named x n.0 n.1)
 
 pub tells : (p : Schedule) (a : Word) (b c : Option Word) (holds : Word → Option (List ℕ)) (left : Seat → Option (List ℕ)) (is_open : Seat → Bool) (input : Layer → List ℕ) → IsRemux p a b c → AreOpened (names_of a b c) holds left is_open → Hold holds (names_of a b c) input → Tells p left input
 tells p a b c holds left is_open input r o h = record {

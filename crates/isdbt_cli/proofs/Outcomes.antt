@@ -1,5 +1,5 @@
 -- What the answers of the core mean as answers of the program.
-use Rattle.std.proofs.Common.{◌≡◌, ℕ, List, Some, Err, sym, ap, subst}
+use Rattle.std.proofs.Common.{◌≡◌, ℕ, List, Bool, Some, None, Err, sym, ap, subst}
 use Rattle.std.specs.Prelude.{◌↔◌}
 use Rattle.std.specs.declared.option.Option.{Option}
 use Rattle.isdbt_base.specs.declared.kinds.Layer.{Layer}
@@ -10,7 +10,7 @@ use Rattle.remux_core.specs.declared.fault.RemuxFault.{RemuxFault}
 use Rattle.remux_core.specs.declared.fault.RemuxFault.TheVariants as core
 use Rattle.remux_core.specs.Answers.{Refused, RemuxAnswer}
 use Rattle.remux_core.specs.Parts.{IsGood}
-use Rattle.remux_core.specs.Refusals.{seat_of}
+use Rattle.remux_core.specs.Refusals.{seat_of, refusal}
 use Rattle.remux_core.proofs.Refusing.{refusal-good}
 use Rattle.isdbt_cli.specs.declared.fault.RunFault.{RunFault}
 use Rattle.isdbt_cli.specs.declared.fault.RunFault.TheVariants.{Usage, BadSync, Truncated, OpenFault, ReadFault, WriteFault, TooLong, NoMemory}
@@ -18,7 +18,7 @@ use Rattle.isdbt_cli.specs.declared.fault.Outcome.{Outcome}
 use Rattle.isdbt_cli.specs.declared.fault.Outcome.TheVariants.{Done, Fault}
 use Rattle.isdbt_cli.specs.CommandLines.{Word, Command, remux, Spells, IsFaultAt}
 use Rattle.isdbt_cli.specs.Faults.{run_fault_of}
-use Rattle.isdbt_cli.specs.Run.{frame_limit, Names, names_of, RunAnswer, AnswerOf, CommandCause, CauseOf, NothingRose, IsFree}
+use Rattle.isdbt_cli.specs.Run.{frame_limit, Names, names_of, AreSeated, SeatsAfter, SeatsOf, RunAnswer, AnswerOf, CommandCause, CauseOf, NothingRose, IsDoneOrNoMemory, IsFree}
 use Rattle.isdbt_cli.proofs.OnePlace.{no_place, one_place}
 
 -- ---- usage
@@ -53,7 +53,7 @@ given_answer p input before after left fault given is says = subst (λ f. RunAns
 pub same_answer : (c d : Command) (holds : Word → Option (List ℕ)) (before after : Option (List ℕ)) (left : Seat → Option (List ℕ)) (outcome : Outcome) → c ≡ d → AnswerOf c holds before after left outcome → AnswerOf d holds before after left outcome
 same_answer c d holds before after left outcome same says = subst (λ e. AnswerOf e holds before after left outcome) same says
 
--- ---- good packets explain no refusal
+-- ---- what explains no answer
 
 not_refused : (p : Schedule) (input : Layer → List ℕ) (fault : RemuxFault) (before after : Option (List ℕ)) → Refused p input frame_limit fault before after → ((x : Layer) → IsGood (input x)) → fault ≡ core.TooLong
 not_refused p input fault before after r good = refusal-good p input frame_limit r.0 fault good r.1.outcome.at
@@ -65,18 +65,60 @@ not_read : (name : Names) (shelf shelf' : Cause → ℕ) (sink sink' : ℕ) (sea
 not_read name shelf shelf' sink sink' seat x none at rose = none.read x (subst (λ (s : Seat). Rose (shelf (Reading s)) (shelf' (Reading s))) at rose)
 
 free : (p : Schedule) (name : Names) (input : Layer → List ℕ) (before after : Option (List ℕ)) (left : Seat → Option (List ℕ)) (shelf shelf' : Cause → ℕ) (sink sink' : ℕ) (outcome : Outcome) → RunAnswer p input before after left outcome
-    → CommandCause p name shelf shelf' sink sink' outcome → NothingRose name shelf shelf' sink sink' → ((x : Layer) → IsGood (input x)) → IsFree outcome
-free p name input before after left shelf shelf' sink sink' (Done m) says cause none good = tt
-free p name input before after left shelf shelf' sink sink' (Fault (Usage word)) says cause none good = says
-free p name input before after left shelf shelf' sink sink' (Fault (BadSync seat packet)) says cause none good = absurd (let e = not_refused p input (core.BadSync seat packet) before after says good in cc)
-free p name input before after left shelf shelf' sink sink' (Fault (Truncated seat over)) says cause none good = absurd (let e = not_refused p input (core.Truncated seat over) before after says good in cc)
-free p name input before after left shelf shelf' sink sink' (Fault (OpenFault seat)) says cause none good = not_opened name shelf shelf' sink sink' seat cause.0.layer cause.0.word none cause.0.name_is cause.0.seat_is cause.0.rose
-free p name input before after left shelf shelf' sink sink' (Fault (ReadFault seat)) says cause none good = not_read name shelf shelf' sink sink' seat cause.0.0 none cause.0.2 cause.1
-free p name input before after left shelf shelf' sink sink' (Fault WriteFault) says cause none good = none.wrote cause.1
-free p name input before after left shelf shelf' sink sink' (Fault TooLong) says cause none good = tt
-free p name input before after left shelf shelf' sink sink' (Fault NoMemory) says cause none good = tt
+    → CommandCause p name shelf shelf' sink sink' outcome → NothingRose name shelf shelf' sink sink' → ((fault : RemuxFault) → Refused p input frame_limit fault before after → fault ≡ core.TooLong) → IsFree outcome
+free p name input before after left shelf shelf' sink sink' (Done m) says cause none only_long = tt
+free p name input before after left shelf shelf' sink sink' (Fault (Usage word)) says cause none only_long = says
+free p name input before after left shelf shelf' sink sink' (Fault (BadSync seat packet)) says cause none only_long = absurd (let e = only_long (core.BadSync seat packet) says in cc)
+free p name input before after left shelf shelf' sink sink' (Fault (Truncated seat over)) says cause none only_long = absurd (let e = only_long (core.Truncated seat over) says in cc)
+free p name input before after left shelf shelf' sink sink' (Fault (OpenFault seat)) says cause none only_long = not_opened name shelf shelf' sink sink' seat cause.0.layer cause.0.word none cause.0.name_is cause.0.seat_is cause.0.rose
+free p name input before after left shelf shelf' sink sink' (Fault (ReadFault seat)) says cause none only_long = not_read name shelf shelf' sink sink' seat cause.0.0 none cause.0.2 cause.1
+free p name input before after left shelf shelf' sink sink' (Fault WriteFault) says cause none only_long = none.wrote cause.1
+free p name input before after left shelf shelf' sink sink' (Fault TooLong) says cause none only_long = tt
+free p name input before after left shelf shelf' sink sink' (Fault NoMemory) says cause none only_long = tt
+
+pub ok_good : (c : Command) (p : Schedule) (a : Word) (b n : Option Word) (input : Layer → List ℕ) (before after : Option (List ℕ)) (left : Seat → Option (List ℕ)) (shelf shelf' : Cause → ℕ) (sink sink' : ℕ) (outcome : Outcome) → c ≡ remux p a b n
+    → RunAnswer p input before after left outcome → CauseOf c shelf shelf' sink sink' outcome → NothingRose (names_of a b n) shelf shelf' sink sink' → ((x : Layer) → IsGood (input x)) → IsFree outcome
+ok_good c p a b n input before after left shelf shelf' sink sink' outcome same says cause none good =
+    free p (names_of a b n) input before after left shelf shelf' sink sink' outcome says (subst (λ e. CauseOf e shelf shelf' sink sink' outcome) same cause) none
+    (λ fault r. not_refused p input fault before after r good)
+
+-- ---- no refusal and no fault of the outside leave one answer and want of memory
+
+complete : (p : Schedule) (name : Names) (input : Layer → List ℕ) (before after : Option (List ℕ)) (left : Seat → Option (List ℕ)) (outcome : Outcome) → RunAnswer p input before after left outcome
+    → ((fault : RemuxFault) → Refused p input frame_limit fault before after → ⊥) → IsFree outcome → IsDoneOrNoMemory outcome
+complete p name input before after left (Done m) says never is_free = tt
+complete p name input before after left (Fault (Usage word)) says never is_free = is_free
+complete p name input before after left (Fault (BadSync seat packet)) says never is_free = is_free
+complete p name input before after left (Fault (Truncated seat over)) says never is_free = is_free
+complete p name input before after left (Fault (OpenFault seat)) says never is_free = is_free
+complete p name input before after left (Fault (ReadFault seat)) says never is_free = is_free
+complete p name input before after left (Fault WriteFault) says never is_free = is_free
+complete p name input before after left (Fault TooLong) says never is_free = never core.TooLong says
+complete p name input before after left (Fault NoMemory) says never is_free = tt
+
+never_refused : (p : Schedule) (input : Layer → List ℕ) (fault : RemuxFault) (before after : Option (List ℕ)) → ((f : ℕ) → refusal p input frame_limit f ≡ None) → Refused p input frame_limit fault before after → ⊥
+never_refused p input fault before after none r = (let at = r.1.outcome.at in let is = none r.0 in cc)
 
 pub ok_complete : (c : Command) (p : Schedule) (a : Word) (b n : Option Word) (input : Layer → List ℕ) (before after : Option (List ℕ)) (left : Seat → Option (List ℕ)) (shelf shelf' : Cause → ℕ) (sink sink' : ℕ) (outcome : Outcome) → c ≡ remux p a b n
-    → RunAnswer p input before after left outcome → CauseOf c shelf shelf' sink sink' outcome → NothingRose (names_of a b n) shelf shelf' sink sink' → ((x : Layer) → IsGood (input x)) → IsFree outcome
-ok_complete c p a b n input before after left shelf shelf' sink sink' outcome same says cause none good =
-    free p (names_of a b n) input before after left shelf shelf' sink sink' outcome says (subst (λ e. CauseOf e shelf shelf' sink sink' outcome) same cause) none good
+    → RunAnswer p input before after left outcome → CauseOf c shelf shelf' sink sink' outcome → NothingRose (names_of a b n) shelf shelf' sink sink' → ((f : ℕ) → refusal p input frame_limit f ≡ None) → IsDoneOrNoMemory outcome
+ok_complete c p a b n input before after left shelf shelf' sink sink' outcome same says cause none passed =
+    complete p (names_of a b n) input before after left outcome says (λ fault r. never_refused p input fault before after passed r)
+    (free p (names_of a b n) input before after left shelf shelf' sink sink' outcome says (subst (λ e. CauseOf e shelf shelf' sink sink' outcome) same cause) none
+    (λ fault r. absurd (never_refused p input fault before after passed r)))
+
+-- ---- seats
+
+seated_fault : (name : Names) (is_open : Seat → Bool) (fault : RemuxFault) → AreSeated name is_open → SeatsAfter name is_open (Fault (run_fault_of fault))
+seated_fault name is_open (core.BadSync seat packet) seats = seats
+seated_fault name is_open (core.Truncated seat over) seats = seats
+seated_fault name is_open (core.ReadFault seat) seats = seats
+seated_fault name is_open core.WriteFault seats = seats
+seated_fault name is_open core.TooLong seats = seats
+seated_fault name is_open core.NoMemory seats = seats
+
+-- a fault of the core leaves the seats that were opened
+pub seated : (name : Names) (is_open : Seat → Bool) (fault : RemuxFault) (given : RunFault) → given ≡ run_fault_of fault → AreSeated name is_open → SeatsAfter name is_open (Fault given)
+seated name is_open fault given is seats = subst (λ f. SeatsAfter name is_open (Fault f)) (sym is) (seated_fault name is_open fault seats)
+
+pub same_seats : (c d : Command) (is_open : Seat → Bool) (outcome : Outcome) → c ≡ d → SeatsOf c is_open outcome → SeatsOf d is_open outcome
+same_seats c d is_open outcome same says = subst (λ e. SeatsOf e is_open outcome) same says

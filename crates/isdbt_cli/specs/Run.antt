@@ -1,5 +1,5 @@
 -- What an answer of the program says.
-use Rattle.std.specs.Prelude.{◌≡◌, ℕ, List, [], Bool, true, None, Some}
+use Rattle.std.specs.Prelude.{◌≡◌, ℕ, ◌<◌, ◌≤◌, List, [], Bool, true, false, None, Some}
 use Rattle.std.specs.declared.option.Option.{Option}
 use Rattle.isdbt_base.specs.declared.kinds.Layer.{Layer}
 use Rattle.isdbt_base.specs.declared.kinds.Layer.TheVariants as layers
@@ -8,7 +8,7 @@ use Rattle.edge_io.specs.declared.shelf.Seat.{Seat}
 use Rattle.edge_io.specs.Causes.{Rose, Cause, Opening, Reading}
 use Rattle.remux_core.specs.declared.fault.RemuxFault.TheVariants as core
 use Rattle.remux_core.specs.Refusals.{seat_of}
-use Rattle.remux_core.specs.Answers.{IsUsed, Tells, Finished, Refused, ReadFailed, WriteFailed}
+use Rattle.remux_core.specs.Answers.{IsUsed, place_of, Tells, Finished, Refused, ReadFailed, WriteFailed}
 use Rattle.isdbt_cli.specs.declared.fault.Outcome.{Outcome}
 use Rattle.isdbt_cli.specs.declared.fault.Outcome.TheVariants.{Done, Fault}
 use Rattle.isdbt_cli.specs.declared.fault.RunFault.TheVariants.{Usage, BadSync, Truncated, OpenFault, ReadFault, WriteFault, TooLong, NoMemory}
@@ -34,10 +34,32 @@ pub record Hold (holds : Word → Option (List ℕ)) (name : Names) (input : Lay
   pub named : (x : Layer) (n : Word) → name x ≡ Some n → holds n ≡ Some (input x)
   pub others : (x : Layer) → name x ≡ None → input x ≡ []
 
--- each layer with a name has its seat open, with what the name holds
+-- ---- seats
+
+-- each layer with a name has its seat open, and each without one has not
+pub record AreSeated (name : Names) (is_open : Seat → Bool) : Type 0 where
+  pub named : (x : Layer) (n : Word) → name x ≡ Some n → is_open (seat_of x) ≡ true
+  pub others : (x : Layer) → name x ≡ None → is_open (seat_of x) ≡ false
+
+-- the inputs are opened, each with what its name holds
 pub record AreOpened (name : Names) (holds : Word → Option (List ℕ)) (left : Seat → Option (List ℕ)) (is_open : Seat → Bool) : Type 0 where
-  pub opened : (x : Layer) (n : Word) → name x ≡ Some n → is_open (seat_of x) ≡ true
+  pub seats : AreSeated name is_open
   pub content : (x : Layer) (n : Word) → name x ≡ Some n → left (seat_of x) ≡ holds n
+
+-- the named inputs before this seat are opened, and it and those behind it are not
+pub record OpenStopped (name : Names) (is_open : Seat → Bool) (seat : Seat) : Type 0 where
+  pub layer : Layer
+  pub seat_is : seat ≡ seat_of layer
+  pub earlier : (x : Layer) (n : Word) → name x ≡ Some n → place_of x < place_of layer → is_open (seat_of x) ≡ true
+  pub later : (x : Layer) → place_of layer ≤ place_of x → is_open (seat_of x) ≡ false
+
+-- which seats are open after each answer to a command
+abbrev pub SeatsAfter : Names → (Seat → Bool) → Outcome → Type 0
+SeatsAfter name is_open (Fault (OpenFault seat)) = OpenStopped name is_open seat
+SeatsAfter name is_open outcome = AreSeated name is_open
+
+abbrev pub SeatsOf : Command → (Seat → Bool) → Outcome → Type 0
+SeatsOf (remux p a b c) is_open outcome = SeatsAfter (names_of a b c) is_open outcome
 
 -- ---- answers
 
@@ -83,7 +105,13 @@ abbrev pub RunCause : List Word → (Cause → ℕ) → (Cause → ℕ) → ℕ 
 RunCause words shelf shelf' sink sink' (Fault (Usage word)) = IsFaultAt words word × (shelf' ≡ shelf) × (sink' ≡ sink)
 RunCause words shelf shelf' sink sink' outcome = (c : Command) × Spells words c × CauseOf c shelf shelf' sink sink' outcome
 
--- the answers that no input and no fault of the outside explains
+-- the answers where no frame is refused and nothing of the outside failed
+abbrev pub IsDoneOrNoMemory : Outcome → Type 0
+IsDoneOrNoMemory (Done m) = Unit {0}
+IsDoneOrNoMemory (Fault NoMemory) = Unit {0}
+IsDoneOrNoMemory (Fault fault) = ⊥
+
+-- the answers that no packet and no fault of the outside explains
 abbrev pub IsFree : Outcome → Type 0
 IsFree (Done m) = Unit {0}
 IsFree (Fault TooLong) = Unit {0}

@@ -1,10 +1,10 @@
 //! The inputs that a command names.
 
-ghost use Rattle.std.specs.Prelude.{◌≡◌, ℕ, List, true, false, Some, OnOk, OnErr, IfErr, option_map};
+ghost use Rattle.std.specs.Prelude.{◌≡◌, ℕ, List, true, false, Some, None, OnOk, OnErr, IfErr, option_map};
 ghost use Rattle.edge_io.specs.declared.shelf.Seat.{Seat as Place};
 ghost use Rattle.edge_io.specs.Seats.{OthersKeep};
 ghost use Rattle.edge_io.specs.Causes.{Rose, Opening};
-ghost use Rattle.isdbt_cli.specs.Run.{names_of, AreOpened, OpenFailed};
+ghost use Rattle.isdbt_cli.specs.Run.{names_of, AreOpened, OpenFailed, OpenStopped};
 
 use edge_io::{Failed, Seat, Shelf};
 
@@ -16,6 +16,8 @@ fn open_if_named<H: Shelf>(seat: Seat, name: Option<&str>, shelf: &mut H) -> Res
     ensures other_open { OthersKeep seat (H.is_open shelf.old) (H.is_open shelf.new) }
     ensures opened { OnOk result ((n : List ℕ) → option_map (λ x. x.now) name.entry ≡ Some n → H.is_open shelf.new seat ≡ true) }
     ensures content { OnOk result ((n : List ℕ) → option_map (λ x. x.now) name.entry ≡ Some n → H.left shelf.new seat ≡ H.holds shelf.old n) }
+    ensures unnamed { option_map (λ x. x.now) name.entry ≡ None → H.is_open shelf.new seat ≡ false }
+    ensures closed { OnErr result (H.is_open shelf.new seat ≡ false) }
     ensures kept { OnOk result (H.faults shelf.new ≡ H.faults shelf.old) }
     ensures failed { OnErr result ((n : List ℕ) × (option_map (λ x. x.now) name.entry ≡ Some n)
         × Rose (H.faults shelf.old (Opening seat n)) (H.faults shelf.new (Opening seat n))) }
@@ -26,7 +28,7 @@ fn open_if_named<H: Shelf>(seat: Seat, name: Option<&str>, shelf: &mut H) -> Res
     }
 }
 
-/// Opens the inputs of layers A, B and C at their seats, A first. An `Err` is the seat whose input can't be opened.
+/// Opens the inputs of layers A, B and C at their seats, A first, up to one that can't be opened, which is the `Err`.
 pub fn open_inputs<H: Shelf>(
     a: &str,
     b: Option<&str>,
@@ -37,6 +39,7 @@ pub fn open_inputs<H: Shelf>(
     ensures opened { OnOk result (AreOpened (names_of a.now (option_map (λ x. x.now) b.entry) (option_map (λ x. x.now) c.entry)) (H.holds shelf.old) (H.left shelf.new) (H.is_open shelf.new)) }
     ensures kept { OnOk result (H.faults shelf.new ≡ H.faults shelf.old) }
     ensures failed { IfErr result (λ seat. OpenFailed (names_of a.now (option_map (λ x. x.now) b.entry) (option_map (λ x. x.now) c.entry)) (H.faults shelf.old) (H.faults shelf.new) seat) }
+    ensures stopped { IfErr result (λ seat. OpenStopped (names_of a.now (option_map (λ x. x.now) b.entry) (option_map (λ x. x.now) c.entry)) (H.is_open shelf.new) seat) }
 {
     match open_if_named(Seat::A, Some(a), shelf) {
         Ok(()) => {}

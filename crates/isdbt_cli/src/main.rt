@@ -13,6 +13,8 @@ mod inputs;
 #[cfg(test)]
 mod layers_tests;
 mod lines;
+#[cfg(test)]
+mod quiet_tests;
 mod run;
 mod setting_word;
 #[cfg(test)]

@@ -1,15 +1,16 @@
 //! The top call.
 
-ghost use Rattle.std.specs.Prelude.{◌≡◌, ℕ, List, ◌↔◌, false, option_map};
+ghost use Rattle.std.specs.Prelude.{◌≡◌, ℕ, List, ◌↔◌, false, None, option_map};
 ghost use Rattle.std.specs.declared.option.Option.{Option as Maybe};
 ghost use Rattle.isdbt_base.specs.declared.kinds.Layer.{Layer as Which};
 ghost use Rattle.isdbt_base.specs.Plans.{Schedule};
 ghost use Rattle.edge_io.specs.declared.shelf.Seat.{Seat as Place};
 ghost use Rattle.remux_core.specs.Parts.{IsGood};
+ghost use Rattle.remux_core.specs.Refusals.{refusal};
 ghost use Rattle.isdbt_cli.specs.CommandLines.{Word, remux, IsRemux, IsCommand, Spells, IsFaultAt};
 ghost use Rattle.isdbt_cli.specs.Lines.{line_of, IsTold};
 ghost use Rattle.isdbt_cli.specs.Parsing.{command_of};
-ghost use Rattle.isdbt_cli.specs.Run.{names_of, Hold, RunAnswer, AnswerOf, CommandCause, CauseOf, RunCause, NothingRose, IsFree};
+ghost use Rattle.isdbt_cli.specs.Run.{frame_limit, names_of, Hold, SeatsAfter, SeatsOf, RunAnswer, AnswerOf, CommandCause, CauseOf, RunCause, NothingRose, IsDoneOrNoMemory, IsFree};
 
 use crate::command::Command;
 use crate::fault::{Outcome, RunFault};
@@ -39,6 +40,8 @@ fn run_remux<H: Shelf, K: Sink>(
     ensures answer { (input : Which → List ℕ) → Hold (H.holds shelf.old) (names_of a.now (option_map (λ x. x.now) b.entry) (option_map (λ x. x.now) c.entry)) input
         → RunAnswer plan.now input (K.written out.old) (K.written out.new) (H.left shelf.new) result }
     ensures cause { CommandCause plan.now (names_of a.now (option_map (λ x. x.now) b.entry) (option_map (λ x. x.now) c.entry)) (H.faults shelf.old) (H.faults shelf.new) (K.faults out.old) (K.faults out.new) result }
+    ensures seats { SeatsAfter (names_of a.now (option_map (λ x. x.now) b.entry) (option_map (λ x. x.now) c.entry)) (H.is_open shelf.new) result }
+    ensures room { K.room out.new ≡ K.room out.old }
 {
     match open_inputs(a, b, c, shelf) {
         Ok(()) => {}
@@ -61,6 +64,8 @@ fn run_command<H: Shelf, K: Sink>(
     requires closed { (seat : Place) → H.is_open shelf.old seat ≡ false }
     ensures answer { AnswerOf (command_of command.entry) (H.holds shelf.old) (K.written out.old) (K.written out.new) (H.left shelf.new) result }
     ensures cause { CauseOf (command_of command.entry) (H.faults shelf.old) (H.faults shelf.new) (K.faults out.old) (K.faults out.new) result }
+    ensures seats { SeatsOf (command_of command.entry) (H.is_open shelf.new) result }
+    ensures room { K.room out.new ≡ K.room out.old }
 {
     match command {
         Command::Remux { plan, a, b, c } => run_remux(alloc, &plan, a, b, c, shelf, out),
@@ -90,14 +95,28 @@ pub fn run<H: Shelf, K: Sink, E: Sink>(
         → Hold (H.holds shelf.old) (names_of a b c) input
         → RunAnswer p input (K.written out.old) (K.written out.new) (H.left shelf.new) result }
 
+    // Every named input is opened, and no other seat; at one that can't be opened it stops.
+    ensures seats { (p : Schedule) (a : Word) (b c : Maybe Word) → Spells words.now (remux p a b c)
+        → SeatsAfter (names_of a b c) (H.is_open shelf.new) result }
+
     // A fault of the outside is answered only where its count rose, and another answer only where none rose.
     ensures cause { RunCause words.now (H.faults shelf.old) (H.faults shelf.new) (K.faults out.old) (K.faults out.new) result }
 
-    // Good packets and no fault of the outside: all frames, or too many, or no memory.
+    // No frame refused and no fault of the outside: all frames, or no memory.
     ensures complete { (p : Schedule) (a : Word) (b c : Maybe Word) (input : Which → List ℕ) → Spells words.now (remux p a b c)
         → Hold (H.holds shelf.old) (names_of a b c) input
         → NothingRose (names_of a b c) (H.faults shelf.old) (H.faults shelf.new) (K.faults out.old) (K.faults out.new)
+        → ((f : ℕ) → refusal p input frame_limit f ≡ None) → IsDoneOrNoMemory result }
+
+    // Good packets and no fault of the outside: all frames, or too many, or no memory.
+    ensures good_packets { (p : Schedule) (a : Word) (b c : Maybe Word) (input : Which → List ℕ) → Spells words.now (remux p a b c)
+        → Hold (H.holds shelf.old) (names_of a b c) input
+        → NothingRose (names_of a b c) (H.faults shelf.old) (H.faults shelf.new) (K.faults out.old) (K.faults out.new)
         → ((x : Which) → IsGood (input x)) → IsFree result }
+
+    // The rooms of both sinks stay.
+    ensures out_room { K.room out.new ≡ K.room out.old }
+    ensures err_room { E.room err.new ≡ E.room err.old }
 {
     match words.command() {
         Ok(command) => {

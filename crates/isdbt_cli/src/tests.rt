@@ -160,17 +160,6 @@ fn fault_lines(rt: HostRuntime) -> Result<(), Fail> {
 }
 
 #[test]
-fn empty_input(rt: HostRuntime) -> Result<(), Fail> {
-    let alloc = rt.alloc();
-    let mut out = MemorySink::new(alloc, FRAME)?;
-    let outcome = run_over(alloc, &[], &mut out)?;
-    assert_eq!(rt; outcome, Outcome::Done(0));
-    assert_eq!(rt; outcome.status(), 0);
-    assert_eq!(rt; out.bytes().len(), 0);
-    Ok(())
-}
-
-#[test]
 fn input_ends_inside_packet(rt: HostRuntime) -> Result<(), Fail> {
     let alloc = rt.alloc();
     // The input's length, the bytes over, and the frames that are written before.

@@ -1,7 +1,7 @@
 use Rattle.isdbt_cli.specs.CommandLines.{remux}
 use Rattle.isdbt_cli.specs.Parsing.{command_of}
 use Rattle.isdbt_cli.proofs.OnePlace.{no_place, one_command}
-use Rattle.isdbt_cli.proofs.Outcomes.{ok_usage, fault_usage, same_answer, ok_complete}
+use Rattle.isdbt_cli.proofs.Outcomes.{ok_usage, fault_usage, same_answer, same_seats, ok_complete, ok_good}
 use Rattle.isdbt_cli.proofs.run.run.Goals as goal
 
 pub returns-in-Ok-clause-usage : goal.returns-in-Ok-clause-usage
@@ -16,6 +16,15 @@ returns-in-Ok-clause-complete g c = λ p a b n input spelled hold none good.
     let same = one_command c.args.words.now (command_of c.in-Ok.command) (remux p a b n) c.in-Ok.ensures spelled in
     ok_complete (command_of c.in-Ok.command) p a b n input _ _ _ _ _ _ _ c.run_command-outcome.result same (same_answer (command_of c.in-Ok.command) (remux p a b n) _ _ _ _ _ same c.run_command-outcome.ensures.answer input hold) c.run_command-outcome.ensures.cause none good
 
+pub returns-in-Ok-clause-good_packets : goal.returns-in-Ok-clause-good_packets
+returns-in-Ok-clause-good_packets g c = λ p a b n input spelled hold none good.
+    let same = one_command c.args.words.now (command_of c.in-Ok.command) (remux p a b n) c.in-Ok.ensures spelled in
+    ok_good (command_of c.in-Ok.command) p a b n input _ _ _ _ _ _ _ c.run_command-outcome.result same (same_answer (command_of c.in-Ok.command) (remux p a b n) _ _ _ _ _ same c.run_command-outcome.ensures.answer input hold) c.run_command-outcome.ensures.cause none good
+
+pub returns-in-Ok-clause-seats : goal.returns-in-Ok-clause-seats
+returns-in-Ok-clause-seats g c = λ p a b n spelled.
+    same_seats (command_of c.in-Ok.command) (remux p a b n) _ _ (one_command c.args.words.now (command_of c.in-Ok.command) (remux p a b n) c.in-Ok.ensures spelled) c.run_command-outcome.ensures.seats
+
 pub returns-in-Err-clause-usage : goal.returns-in-Err-clause-usage
 returns-in-Err-clause-usage g c = λ word. fault_usage _ _ word c.in-Err.ensures
 
@@ -24,3 +33,9 @@ returns-in-Err-clause-answer g c = λ p a b n input spelled hold. absurd (no_pla
 
 pub returns-in-Err-clause-complete : goal.returns-in-Err-clause-complete
 returns-in-Err-clause-complete g c = λ p a b n input spelled hold none good. absurd (no_place _ (remux p a b n) _ spelled c.in-Err.ensures)
+
+pub returns-in-Err-clause-good_packets : goal.returns-in-Err-clause-good_packets
+returns-in-Err-clause-good_packets g c = λ p a b n input spelled hold none good. absurd (no_place _ (remux p a b n) _ spelled c.in-Err.ensures)
+
+pub returns-in-Err-clause-seats : goal.returns-in-Err-clause-seats
+returns-in-Err-clause-seats g c = λ p a b n spelled. absurd (no_place _ (remux p a b n) _ spelled c.in-Err.ensures)
