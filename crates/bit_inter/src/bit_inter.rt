@@ -1,0 +1,79 @@
+//! The sending side.
+
+use delay_line::{LineBank, Stage};
+use isdbt_base::NoMemory;
+use std::alloc::Global;
+use std::marker::Model;
+
+/// Bit interleaver for cells of `V` bits, 2, 4 or 6: bit r of a cell is late by 120 * r / (`V` - 1)
+/// cells.
+///
+/// Contracts see what each path holds, the next to go out first.
+#[derive(Drop)]
+pub struct BitInter<const V: usize> {
+    bank: LineBank<bool>,
+}
+
+impl<const V: usize> Model for BitInter<V> {
+    ghost use Rattle.std.specs.Prelude.{Bool, List};
+    ghost use Rattle.delay_line.specs.Stages.{IsBankOf};
+    ghost use Rattle.bit_inter.specs.Layouts.{inter_layout, IsCellWidth};
+
+    ghost Value = { List (List Bool) };
+
+    ghost view = { λ s. s.bank };
+
+    ghost invariant = { λ s. IsCellWidth V × IsBankOf (inter_layout V) s.bank };
+}
+
+impl<const V: usize> BitInter<V> {
+    ghost use Rattle.std.specs.Prelude.{◌≡◌, [], IfOk};
+    ghost use Rattle.delay_line.specs.Stages.{StandsFor, new_bank};
+    ghost use Rattle.bit_inter.specs.Layouts.{inter_layout, IsCellWidth};
+
+    /// An interleaver whose paths hold zeros. Only memory can be wanting.
+    pub fn open(alloc: Global) -> Result<Self, NoMemory>
+        requires { IsCellWidth V }
+        ensures zeros { IfOk result (λ stage. stage ≡ new_bank (inter_layout V)) }
+        ensures stands { IfOk result (λ stage. StandsFor (⟦<BitInter<V> as Stage>⟧.layout stage) (⟦<BitInter<V> as Stage>⟧.held stage) []) }
+    {
+        let mut bank = LineBank::new(alloc);
+        for path in 0..V {
+            bank.add(alloc, (120 * path / (V - 1)) as u32, false)?;
+        }
+        Ok(BitInter { bank })
+    }
+}
+
+impl<const V: usize> Stage for BitInter<V> {
+    type Item = bool;
+
+    ghost use Rattle.std.specs.Prelude.{[], slice_index_or};
+    ghost use Rattle.bit_inter.specs.Layouts.{inter_layout};
+
+    ghost layout = { λ _. inter_layout V };
+
+    ghost held = { λ s r. slice_index_or s r [] };
+
+    fn delay(&self) -> u32 {
+        120
+    }
+
+    fn zero(&self) -> bool {
+        false
+    }
+
+    fn paths(&self) -> u32 {
+        let _ = &self.bank;
+        V as u32
+    }
+
+    fn path_delay(&self, path: u32) -> u32 {
+        let _ = &self.bank;
+        120 * path / (V as u32 - 1)
+    }
+
+    fn feed(&mut self, input: &[bool], output: &mut [bool]) {
+        self.bank.feed(input, output);
+    }
+}

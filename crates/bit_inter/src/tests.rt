@@ -1,0 +1,103 @@
+//! Bits whose places are known.
+
+use crate::{BitDeinter, BitInter};
+use delay_line::{Line, Stage, through};
+use std::test::Fail;
+
+#[test]
+fn delay_line_vectors(rt: HostRuntime) -> Result<(), Fail> {
+    let mut inter = BitInter::<2>::open(rt.alloc())?;
+    let mut deinter = BitDeinter::<2>::open(rt.alloc())?;
+    // Both bits of the first cell, and then 120 cells of zeros.
+    let mut sent = [false; 242];
+    sent[0] = true;
+    sent[1] = true;
+    let mut given = [true; 242];
+    inter.feed(&sent, &mut given);
+    for (place, bit) in given.iter().enumerate() {
+        assert_eq!(rt; *bit, place == 0 || place == 241, "place {place}");
+    }
+    deinter.feed(&sent, &mut given);
+    for (place, bit) in given.iter().enumerate() {
+        assert_eq!(rt; *bit, place == 1 || place == 240, "place {place}");
+    }
+    Ok(())
+}
+
+#[test]
+fn delays_of_the_bits(rt: HostRuntime) -> Result<(), Fail> {
+    let inter = BitInter::<6>::open(rt.alloc())?;
+    let deinter = BitDeinter::<6>::open(rt.alloc())?;
+    assert_eq!(rt;
+        (inter.paths(), inter.delay(), inter.zero()),
+        (6, 120, false)
+    );
+    assert_eq!(rt;
+        (deinter.paths(), deinter.delay(), deinter.zero()),
+        (6, 120, false)
+    );
+    for (path, delay) in [0, 24, 48, 72, 96, 120].iter().enumerate() {
+        if path < 6 {
+            assert_eq!(rt; inter.path_delay(path as u32), *delay);
+            assert_eq!(rt; deinter.path_delay(path as u32), 120 - *delay);
+        }
+    }
+    let inter = BitInter::<4>::open(rt.alloc())?;
+    assert_eq!(rt; (inter.path_delay(1), inter.path_delay(2)), (40, 80));
+    Ok(())
+}
+
+#[test]
+fn bits_behind_the_adjustment(rt: HostRuntime) -> Result<(), Fail> {
+    // One segment of mode 1 has 96 cells a symbol. QPSK: coded bit 0 is bit 0 of layer cell 72, coded
+    // bit 1 bit 1 of cell 192.
+    let mut line = Line::open(rt.alloc(), 144, false)?;
+    let mut inter = BitInter::<2>::open(rt.alloc())?;
+    let mut coded = [false; 800];
+    coded[0] = true;
+    coded[1] = true;
+    let mut adjusted = [true; 800];
+    line.feed(&coded, &mut adjusted);
+    let mut placed = [true; 800];
+    inter.feed(&adjusted, &mut placed);
+    for (place, bit) in placed.iter().enumerate() {
+        assert_eq!(rt; *bit, place == 144 || place == 385, "place {place}");
+    }
+
+    // 16QAM: coded bit 6 is bit 2 of cell 1 + 72 + 80.
+    let mut line = Line::open(rt.alloc(), 288, false)?;
+    let mut inter = BitInter::<4>::open(rt.alloc())?;
+    coded[0] = false;
+    coded[1] = false;
+    coded[6] = true;
+    line.feed(&coded, &mut adjusted);
+    inter.feed(&adjusted, &mut placed);
+    for (place, bit) in placed.iter().enumerate() {
+        assert_eq!(rt; *bit, place == 614, "place {place}");
+    }
+    Ok(())
+}
+
+#[test]
+fn bit_pair(rt: HostRuntime) -> Result<(), Fail> {
+    let mut inter = BitInter::<6>::open(rt.alloc())?;
+    let mut deinter = BitDeinter::<6>::open(rt.alloc())?;
+    let mut middle = [false; 6];
+    for turn in 0..300usize {
+        let mut bits = [false; 6];
+        for path in 0..6 {
+            bits[path] = bit_of(turn, path);
+        }
+        through(&mut inter, &mut deinter, &mut bits, &mut middle);
+        for path in 0..6 {
+            let wanted = turn >= 120 && bit_of(turn - 120, path);
+            assert_eq!(rt; bits[path], wanted, "turn {turn}, path {path}");
+        }
+    }
+    Ok(())
+}
+
+/// A bit of a turn and a path.
+fn bit_of(turn: usize, path: usize) -> bool {
+    turn % 7 == path % 7 || turn % 5 == path % 5
+}

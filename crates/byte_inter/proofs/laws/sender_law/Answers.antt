@@ -1,0 +1,5 @@
+use Rattle.byte_inter.proofs.SenderLaws.{get_or-sender_output}
+use Rattle.byte_inter.proofs.laws.sender_law.Goals as goal
+
+pub returns : goal.returns
+returns c = get_or-sender_output c.args.t

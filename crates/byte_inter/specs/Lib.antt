@@ -1,0 +1,2 @@
+pub mod BytePlaces
+pub mod Layouts

@@ -1,0 +1,63 @@
+//! Sending the outputs of some steps.
+
+ghost use Rattle.std.specs.Prelude.{◌≡◌, ℕ, ◌+◌, ◌*◌, ◌<◌, ◌≤◌, Bool, length};
+ghost use Rattle.isdbt_base.specs.Numbers.{rate_steps, rate_bits};
+ghost use Rattle.conv_punct.specs.CodedBits.{step_of};
+ghost use Rattle.conv_punct.specs.Sending.{output_of, sent_bit};
+ghost use Rattle.conv_punct.specs.Outputs.{AreOutputs, AreCoded, ChangesOnly};
+
+use crate::outputs::Outputs;
+use crate::pattern::{Sent, pattern_of};
+use isdbt_base::{Rate, rate_pair};
+
+/// The output of a pattern whose first step has bit `first`.
+fn sent_bit(sent: Sent, outputs: &Outputs, first: u32) -> bool
+    requires within { step_of (output_of sent) ≤ first }
+    requires place { first < 64 }
+    ensures { result ≡ sent_bit outputs.now first sent }
+{
+    match sent {
+        Sent::X(step) => (outputs.x >> (first - step)) & 1 == 1,
+        Sent::Y(step) => (outputs.y >> (first - step)) & 1 == 1,
+    }
+}
+
+/// Puts the coded bits of one pattern, whose last step has bit `last`, at a place of `out`, and says where they end.
+fn put_pattern(out: &mut [bool], at: usize, rate: Rate, outputs: &Outputs, last: u32) -> usize
+    requires room { at + rate_bits rate ≤ length out.old }
+    requires place { last + rate_steps rate ≤ 64 }
+    ensures end { result ≡ at + rate_bits rate }
+    ensures coded { (u : ℕ → Bool) (i before : ℕ) → AreOutputs outputs.now (last + rate_steps rate) u i → i ≡ rate_steps rate * (before + 1) + last → AreCoded rate u (rate_bits rate * before) out.new at (rate_bits rate) }
+    ensures others { ChangesOnly out.old out.new at (rate_bits rate) }
+{
+    let (steps, _) = rate_pair(rate);
+    let first = last + steps - 1;
+    let pattern = pattern_of(rate);
+    for (index, sent) in pattern.iter().enumerate() {
+        out[at + index] = sent_bit(*sent, outputs, first);
+    }
+    at + pattern.len()
+}
+
+/// Puts the coded bits of so many patterns, the last steps of `outputs`, at a place of `out`, and says where they end.
+pub fn put_patterns(
+    out: &mut [bool],
+    at: usize,
+    rate: Rate,
+    outputs: &Outputs,
+    patterns: u32,
+) -> usize
+    requires room { at + rate_bits rate * patterns ≤ length out.old }
+    requires few { rate_steps rate * patterns ≤ 56 }
+    ensures end { result ≡ at + rate_bits rate * patterns }
+    ensures coded { (u : ℕ → Bool) (i before : ℕ) → AreOutputs outputs.now (rate_steps rate * patterns) u i → i ≡ rate_steps rate * (before + patterns) → AreCoded rate u (rate_bits rate * before) out.new at (rate_bits rate * patterns) }
+    ensures others { ChangesOnly out.old out.new at (rate_bits rate * patterns) }
+{
+    let (steps, _) = rate_pair(rate);
+    let mut end = at;
+    for done in 0..patterns {
+        let last = steps * (patterns - done - 1);
+        end = put_pattern(out, end, rate, outputs, last);
+    }
+    end
+}

@@ -1,0 +1,13 @@
+pub mod FieldTests
+pub mod FieldLaws
+pub mod TableLaws
+pub mod Roots
+pub mod OneCodeword
+pub mod Systematic
+pub mod OneNear
+pub mod Sums
+pub mod Words
+pub mod LocatorLaws
+pub mod Steps
+pub mod CorrectionLaws
+pub mod Generators

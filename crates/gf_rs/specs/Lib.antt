@@ -1,0 +1,4 @@
+pub mod Field
+pub mod Codewords
+pub mod Polynomials
+pub mod Answers

@@ -1,0 +1,3 @@
+pub mod CodedBits
+pub mod CodedLayer
+pub mod SentBytes

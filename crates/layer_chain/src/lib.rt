@@ -1,0 +1,19 @@
+//! One layer of the chain, from its packets to what is sent of them (ARIB STD-B31 3.4 to 3.8).
+//!
+//! A layer's packets come frame by frame, as many as the layer has in a frame. Of each the unit of 204 bytes is sent: its
+//! codeword without the first byte, with the sequence of energy dispersal added, and the sync byte of the next. The
+//! sequence begins anew at each frame. Delay adjustment, byte interleaving and the inner code make coded bits of the
+//! units; they begin with empty memories at each epoch.
+//!
+//! Memory is taken at `open` alone.
+#![tactic(auto)]
+
+mod coded_layer;
+mod laws;
+mod units;
+
+pub use coded_layer::CodedLayer;
+pub use laws::prefix_law;
+
+#[cfg(test)]
+mod tests;
