@@ -1,3 +1,4 @@
+pub mod AdjustedFrames
 pub mod LayerFrames
 pub mod OpenedLayer
 pub mod Sizes

@@ -1,40 +1,36 @@
--- The first bytes of a stream as a list, piece after piece.
+-- The first items of a stream, piece after piece.
 use Rattle.std.proofs.Common.{◌≡◌, ℕ, ◌+◌, ◌-◌, ◌<◌, List, [], ◌++◌, length, get_or, inl, inr, refl, sym, ap, ◌∙◌, arith, length-append}
 use Rattle.std.proofs.lemmas.Bool.{cases_lt}
 use Rattle.std.proofs.lemmas.List.{ext_get_or, get_or_append_left, get_or-append_right}
 use Rattle.std.proofs.lemmas.List.FromFn.{length-map-range_with_len, get_or-map-range_with_len}
 use Rattle.conv_punct.specs.StandsFor.{BeginsWith}
-use Rattle.layer_chain.specs.SentBytes.{first_of}
+use Rattle.layer_chain.specs.Streams.{first_of, AreItems}
 
-pub length-first_of : (f : ℕ → ℕ) (n : ℕ) → length (first_of f n) ≡ n
-unfolding first_of
-length-first_of f n = length-map-range_with_len f 0 n
+module _ {X : Type 0} where
+  pub length-first_of : (f : ℕ → X) (n : ℕ) → length (first_of f n) ≡ n
+  unfolding first_of
+  length-first_of f n = length-map-range_with_len f 0 n
 
-pub get_or-first_of : (f : ℕ → ℕ) (n i : ℕ) → i < n → get_or (first_of f n) i 0 ≡ f i
-unfolding first_of
-get_or-first_of f n i h = get_or-map-range_with_len f 0 n i i 0 h (omega arith)
+  pub get_or-first_of : (f : ℕ → X) (n i : ℕ) (d : X) → i < n → get_or (first_of f n) i d ≡ f i
+  unfolding first_of
+  get_or-first_of f n i d h = get_or-map-range_with_len f 0 n i i d h (omega arith)
 
--- the items of a list are those of a stream from a place on
-pub record AreItems (stream : ℕ → ℕ) (from count : ℕ) (items : List ℕ) : Type 0 where
-  pub size : length items ≡ count
-  pub each : (i : ℕ) → i < count → get_or items i 0 ≡ stream (from + i)
+  pub first_of-none : (f : ℕ → X) (n : ℕ) → n ≡ 0 → first_of f n ≡ []
+  unfolding first_of
+  first_of-none f n none = rw none refl
 
--- the first n of a stream, and then the next m
-pub first_of-add : (f : ℕ → ℕ) (n m : ℕ) (xs : List ℕ) → AreItems f n m xs → first_of f n ++ xs ≡ first_of f (n + m)
-first_of-add f n m xs items =
-    let front = length-first_of f n in
-    let whole = length-first_of f (n + m) in
-    ext_get_or 0 (first_of f n ++ xs) (first_of f (n + m)) (length-append (first_of f n) xs ∙ omega (arith, front, whole, items.size)) (λ i h.
-    let within : i < n + m = (let e = length-append (first_of f n) xs in omega (arith, e, front, items.size, h)) in
-    elim (cases_lt i n) [
-      | inl k ↦ get_or_append_left (first_of f n) xs 0 i (omega (arith, front, k)) ∙ get_or-first_of f n i k ∙ sym (get_or-first_of f (n + m) i within)
-      | inr k ↦ get_or-append_right (first_of f n) xs n i 0 front k ∙ items.each (i - n) (omega arith) ∙ ap f (omega arith) ∙ sym (get_or-first_of f (n + m) i within)
-    ])
-
-pub first_of-none : (f : ℕ → ℕ) (n : ℕ) → n ≡ 0 → first_of f n ≡ []
-unfolding first_of
-first_of-none f n none = rw none refl
+  -- the first n of a stream, and then the next m
+  pub first_of-add : (d : X) (f : ℕ → X) (n m : ℕ) (xs : List X) → AreItems d f n m xs → first_of f n ++ xs ≡ first_of f (n + m)
+  first_of-add d f n m xs items =
+      let front = length-first_of f n in
+      let whole = length-first_of f (n + m) in
+      ext_get_or d (first_of f n ++ xs) (first_of f (n + m)) (length-append (first_of f n) xs ∙ omega (arith, front, whole, items.size)) (λ i h.
+      let within : i < n + m = (let e = length-append (first_of f n) xs in omega (arith, e, front, items.size, h)) in
+      elim (cases_lt i n) [
+        | inl k ↦ get_or_append_left (first_of f n) xs d i (omega (arith, front, k)) ∙ get_or-first_of f n i d k ∙ sym (get_or-first_of f (n + m) i d within)
+        | inr k ↦ get_or-append_right (first_of f n) xs n i d front k ∙ items.each (i - n) (omega arith) ∙ ap f (omega arith) ∙ sym (get_or-first_of f (n + m) i d within)
+      ])
 
 -- the first bytes of a stream and the next ones begin it
-pub first_of-begins : (s : ℕ → ℕ) (n m : ℕ) (x : List ℕ) → AreItems s n m x → BeginsWith s (first_of s n ++ x)
-first_of-begins s n m x items = rw (first_of-add s n m x items) (λ k h. sym (get_or-first_of s (n + m) k (omega (arith, h, length-first_of s (n + m)))))
+pub first_of-begins : (s : ℕ → ℕ) (n m : ℕ) (x : List ℕ) → AreItems 0 s n m x → BeginsWith s (first_of s n ++ x)
+first_of-begins s n m x items = rw (first_of-add 0 s n m x items) (λ k h. sym (get_or-first_of s (n + m) k 0 (omega (arith, h, length-first_of s (n + m)))))

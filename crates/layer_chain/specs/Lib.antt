@@ -1,3 +1,4 @@
 pub mod CodedBits
 pub mod CodedLayer
 pub mod SentBytes
+pub mod Streams

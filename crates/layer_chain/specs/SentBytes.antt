@@ -1,6 +1,5 @@
 -- The bytes of a layer in an epoch as they are sent, before delay adjustment and interleaving (ARIB STD-B31 3.4, 3.5).
-use Rattle.std.specs.Prelude.{ℕ, ◌+◌, ◌*◌, ◌/◌, ◌%◌, List, map, slice_index, bit_xor, if◌then◌else◌, ◌==◌}
-use Rattle.std.specs.List.{range_with_len}
+use Rattle.std.specs.Prelude.{ℕ, ◌+◌, ◌*◌, ◌/◌, ◌%◌, List, slice_index, bit_xor, if◌then◌else◌, ◌==◌}
 use Rattle.gf_rs.specs.Codewords.{codeword_of}
 use Rattle.energy_prbs.specs.Sequence.{sequence_byte}
 
@@ -13,7 +12,3 @@ unfoldable pub sent_byte : ℕ → (ℕ → List ℕ) → ℕ → ℕ
 sent_byte t packet n =
     if n % 204 == 203 then 0x47
     else bit_xor (slice_index (codeword_of 16 (packet (n / 204))) (n % 204 + 1)) (dispersal_byte t n)
-
--- the first n bytes of a stream
-unfoldable pub first_of : (ℕ → ℕ) → ℕ → List ℕ
-first_of stream n = map stream (range_with_len 0 n)

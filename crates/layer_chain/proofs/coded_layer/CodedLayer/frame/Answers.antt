@@ -6,7 +6,7 @@ use Rattle.std.specs.Vec.{with_items}
 use Rattle.std.proofs.lemmas.List.{with_items_is}
 use Rattle.conv_punct.specs.StandsFor.{BeginsWith}
 use Rattle.conv_punct.specs.StandsFor as inner
-use Rattle.layer_chain.specs.SentBytes.{first_of}
+use Rattle.layer_chain.specs.Streams.{first_of}
 use Rattle.layer_chain.specs.CodedBits.{layer_byte}
 use Rattle.layer_chain.specs.CodedLayer.{packets_of, StandsFor, IsFrame}
 use Rattle.layer_chain.proofs.Streams.{length-first_of, first_of-begins}
@@ -29,8 +29,8 @@ passed c packet frame stands is =
       turns = omega (arith, x_size);
       middle_length = y_size;
       output_length = z_size ∙ y_size;
-      adjusted = ap (λ k. c.args.self.now.adjustment ++ k) (sym x_read) ∙ c.feed.ensures.held;
-      interleaved = subst (λ k. PassesOn (inter_layout 12 17) (λ p. get_or c.args.self.now.interleaver p []) k z (λ p. get_or c.feed-2.new.self p [])) y_read c.feed-2.ensures.held;
+      line_feeds = ap (λ k. c.args.self.now.adjustment ++ k) (sym x_read) ∙ c.feed.ensures.held;
+      stage_feeds = subst (λ k. PassesOn (inter_layout 12 17) (λ p. get_or c.args.self.now.interleaver p []) k z (λ p. get_or c.feed-2.new.self p [])) y_read c.feed-2.ensures.held;
     })
 
 -- the encoder is fed what the interleaver gave
