@@ -1,18 +1,14 @@
 -- One piece more of a stream through a line and the stage behind it.
 use Rattle.std.proofs.Common.{ℕ, ◌+◌, ◌*◌, ◌%◌, List, length, ap, subst, ◌∙◌, arith}
-use Rattle.delay_line.specs.Lines.{item_of, delayed}
+use Rattle.delay_line.specs.Lines.{item_of}
 use Rattle.delay_line.specs.Stages.{Layout}
 use Rattle.delay_line.specs.Adjusted.{AdjustedStandsFor, AdjustedFeeds}
 use Rattle.delay_line.proofs.LineLaws.{delayed-agree}
 use Rattle.delay_line.proofs.AdjustedLaws.{AdjustedStandsFor-append, get_or-adjusted_output}
-use Rattle.layer_chain.specs.Streams.{first_of, AreItems}
+use Rattle.layer_chain.specs.Streams.{first_of, AreItems, adjusted_item}
 use Rattle.layer_chain.proofs.Streams.{length-first_of, get_or-first_of, first_of-add}
 
 module _ {X : Type 0} where
-  -- item q that they give for a stream
-  abbrev pub adjusted_item : Layout X → ℕ → (ℕ → X) → ℕ → X
-  adjusted_item l a s q = delayed (a + l.paths * l.path_delay (q % l.paths)) l.zero s q
-
   -- they stand for so many items more, and gave those that follow
   pub record AdjustedPiece (l : Layout X) (a : ℕ) (s : ℕ → X) (n m : ℕ) (line : List X) (held : ℕ → List X) (output : List X) : Type 0 where
     pub stands : AdjustedStandsFor l a line held (first_of s (n + m))

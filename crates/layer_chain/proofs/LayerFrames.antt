@@ -10,52 +10,30 @@ use Rattle.conv_punct.specs.CodedBits.{bit_of, coded_bit}
 use Rattle.conv_punct.specs.StandsFor.{coded_size}
 use Rattle.conv_punct.specs.StandsFor as inner
 use Rattle.delay_line.specs.Lines.{delayed}
-use Rattle.delay_line.specs.Adjusted.{AdjustedStandsFor, AdjustedFeeds}
 use Rattle.byte_inter.specs.Layouts.{inter_layout}
 use Rattle.byte_inter.proofs.PlaceLaws.{interleaved-delayed}
 use Rattle.byte_inter.specs.BytePlaces.{byte_adjustment, interleaved}
 use Rattle.layer_chain.specs.SentBytes.{sent_byte}
-use Rattle.layer_chain.specs.Streams.{first_of, AreItems}
+use Rattle.layer_chain.specs.Streams.{first_of, AreItems, adjusted_item}
 use Rattle.layer_chain.specs.CodedBits.{layer_byte, layer_coded_bit}
 use Rattle.layer_chain.specs.CodedLayer.{IsFrame}
 use Rattle.layer_chain.proofs.Sizes.{coded_size-frames}
 use Rattle.layer_chain.proofs.Streams.{first_of-add}
-use Rattle.layer_chain.proofs.AdjustedFrames.{adjusted_item, adjusted_piece}
 use Rattle.layer_chain.proofs.UnitLaws.{sent_byte-frame}
 
 -- the byte at each place
-adjusted-interleaved : (t : ℕ) (sent : ℕ → ℕ) (q : ℕ) → adjusted_item (inter_layout 12 17) (byte_adjustment t) sent q ≡ interleaved sent t q
+pub adjusted-interleaved : (t : ℕ) (sent : ℕ → ℕ) (q : ℕ) → adjusted_item (inter_layout 12 17) (byte_adjustment t) sent q ≡ interleaved sent t q
 adjusted-interleaved t sent q = ap (λ d. delayed d 0 sent q) (omega arith) ∙ sym (interleaved-delayed sent t q)
 
--- the parts behind the frame, and the bytes that came out for it
-pub record FramePassed (t : ℕ) (packet : ℕ → List ℕ) (frame : ℕ) (line : List ℕ) (held : ℕ → List ℕ) (z : List ℕ) : Type 0 where
-  pub sender : AdjustedStandsFor (inter_layout 12 17) (byte_adjustment t) line held (first_of (sent_byte t packet) (204 * t * (frame + 1)))
-  pub bytes : AreItems 0 (layer_byte t packet) (204 * t * frame) (204 * t) z
-
 -- the units of a frame
-units : (t : ℕ) (packet : ℕ → List ℕ) (frame : ℕ) (packets : List (List ℕ)) (x : List ℕ) → length packets ≡ t → IsFrame t packet frame packets → length x ≡ 204 * t
+pub units-items : (t : ℕ) (packet : ℕ → List ℕ) (frame : ℕ) (packets : List (List ℕ)) (x : List ℕ) → length packets ≡ t → IsFrame t packet frame packets → length x ≡ 204 * t
     → ((n : ℕ) → n < 204 * length packets → slice_index x n ≡ sent_byte (length packets) (λ m. slice_index_or packets m []) n) → AreItems 0 (sent_byte t packet) (204 * t * frame) (204 * t) x
-units t packet frame packets x count is size bytes = record {
+units-items t packet frame packets x count is size bytes = record {
   size = size;
   each = λ i h.
       bytes i (omega (arith, h, count)) ∙ ap (λ k. sent_byte k (λ m. slice_index_or packets m []) i) count
       ∙ sym (sent_byte-frame t packet (λ m. slice_index_or packets m []) frame i h is.each);
 }
-
-pub frame_passed : (t : ℕ) (packet : ℕ → List ℕ) (frame : ℕ) (packets : List (List ℕ)) (x y z line line' : List ℕ) (held held' : ℕ → List ℕ)
-    → length packets ≡ t → IsFrame t packet frame packets → length x ≡ 204 * t
-    → ((n : ℕ) → n < 204 * length packets → slice_index x n ≡ sent_byte (length packets) (λ m. slice_index_or packets m []) n)
-    → AdjustedStandsFor (inter_layout 12 17) (byte_adjustment t) line held (first_of (sent_byte t packet) (204 * t * frame)) → AdjustedFeeds (inter_layout 12 17) line held x y z line' held'
-    → FramePassed t packet frame line' held' z
-frame_passed t packet frame packets x y z line line' held held' count is size bytes stands feeds =
-    let n = 204 * t * frame in
-    let sent = sent_byte t packet in
-    let next : n + 204 * t ≡ 204 * t * (frame + 1) = omega arith in
-    let piece = adjusted_piece (inter_layout 12 17) (byte_adjustment t) sent n (204 * t) x y z line line' held held' stands feeds (units t packet frame packets x count is size bytes) in
-    record {
-      sender = subst (λ k. AdjustedStandsFor (inter_layout 12 17) (byte_adjustment t) line' held' (first_of sent k)) next piece.stands;
-      bytes = record { size = piece.given.size; each = λ i h. piece.given.each i h ∙ adjusted-interleaved t sent (n + i) };
-    }
 
 -- ---- the inner code
 

@@ -1,7 +1,13 @@
 pub mod AdjustedFrames
+pub mod CellNumbers
+pub mod HeldItems
+pub mod LayerCellLaws
 pub mod LayerFrames
+pub mod LayerParts
 pub mod OpenedLayer
+pub mod ReadBack
 pub mod Sizes
 pub mod StableBits
+pub mod StableCells
 pub mod Streams
 pub mod UnitLaws

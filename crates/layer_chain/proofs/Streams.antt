@@ -31,6 +31,23 @@ module _ {X : Type 0} where
         | inr k ↦ get_or-append_right (first_of f n) xs n i d front k ∙ items.each (i - n) (omega arith) ∙ ap f (omega arith) ∙ sym (get_or-first_of f (n + m) i d within)
       ])
 
+-- ---- items of a stream
+
+module _ {X : Type 0} where
+  -- a list that was read as another
+  pub AreItems-read : (d : X) (s : ℕ → X) (n m : ℕ) (x y : List X) → AreItems d s n m x → y ≡ x → AreItems d s n (length y) y
+  AreItems-read d s n m x y items is = record {
+    size = refl;
+    each = λ i h. ap (λ xs. get_or xs i d) is ∙ items.each i (omega (arith, h, ap length is, items.size));
+  }
+
+  -- another stream with the same items, and another count
+  pub AreItems-same : (d : X) (s t : ℕ → X) (n m k : ℕ) (x : List X) → AreItems d s n m x → m ≡ k → ((i : ℕ) → i < k → s (n + i) ≡ t (n + i)) → AreItems d t n k x
+  AreItems-same d s t n m k x items count same = record {
+    size = items.size ∙ count;
+    each = λ i h. items.each i (omega (arith, h, count)) ∙ same i h;
+  }
+
 -- the first bytes of a stream and the next ones begin it
 pub first_of-begins : (s : ℕ → ℕ) (n m : ℕ) (x : List ℕ) → AreItems 0 s n m x → BeginsWith s (first_of s n ++ x)
 first_of-begins s n m x items = rw (first_of-add 0 s n m x items) (λ k h. sym (get_or-first_of s (n + m) k 0 (omega (arith, h, length-first_of s (n + m)))))

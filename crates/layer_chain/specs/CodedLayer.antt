@@ -25,7 +25,7 @@ packets_of s = packets_per_frame s.mode s.layer
 
 -- each part is as the bytes of the first so many frames leave it
 pub record StandsFor (s : CodedLayer) (packet : ℕ → List ℕ) (frames : ℕ) : Type 0 where
-  pub sender : AdjustedStandsFor (inter_layout 12 17) (byte_adjustment (packets_of s)) s.adjustment (λ p. slice_index_or s.interleaver p []) (first_of (sent_byte (packets_of s) packet) (204 * packets_of s * frames))
+  pub sender : AdjustedStandsFor (inter_layout 12 17) (byte_adjustment (packets_of s)) s.interleaver.line (λ p. slice_index_or s.interleaver.stage p []) (first_of (sent_byte (packets_of s) packet) (204 * packets_of s * frames))
   pub encoder : inner.StandsFor s.encoder (first_of (layer_byte (packets_of s) packet) (204 * packets_of s * frames))
 
 -- a frame's packets are those of the epoch

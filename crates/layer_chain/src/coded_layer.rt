@@ -3,10 +3,10 @@
 ghost use Rattle.std.specs.Prelude.{◌≡◌, ◌*◌, vec_len};
 ghost use Rattle.isdbt_base.specs.Numbers.{packets_per_frame};
 
+use crate::adjusted::Adjusted;
 use crate::units::{UNIT, put_units};
 use byte_inter::ByteInter;
 use conv_punct::Encoder;
-use delay_line::{Line, Stage};
 use isdbt_base::{LayerSetting, Mode, NoMemory};
 use std::alloc::Global;
 use ts_packet::Packet;
@@ -19,15 +19,15 @@ use ts_packet::Packet;
 pub struct CodedLayer {
     mode: Mode,
     layer: LayerSetting,
-    adjustment: Line<u8>,
-    interleaver: ByteInter<12, 17>,
+    interleaver: Adjusted<ByteInter<12, 17>>,
     encoder: Encoder,
-    /// The bytes of a frame as they are sent, and behind byte interleaving.
-    bytes: Vec<u8>,
-    /// The bytes of a frame behind the delay adjustment.
-    adjusted: Vec<u8>,
-    ghost bytes_room: { vec_len bytes ≡ 204 * packets_per_frame mode layer },
-    ghost adjusted_room: { vec_len adjusted ≡ 204 * packets_per_frame mode layer },
+    /// The units of a frame.
+    units: Vec<u8>,
+    /// The bytes of a frame at their places.
+    placed: Vec<u8>,
+    ghost middle_room: { vec_len interleaver.middle ≡ 204 * packets_per_frame mode layer },
+    ghost units_room: { vec_len units ≡ 204 * packets_per_frame mode layer },
+    ghost placed_room: { vec_len placed ≡ 204 * packets_per_frame mode layer },
     ghost same_rate: { encoder.rate ≡ layer.rate },
 }
 
@@ -45,19 +45,32 @@ impl CodedLayer {
     {
         let packets = setting.packets(mode);
         let size = UNIT * packets as usize;
-        let adjustment = Line::open(alloc, 204 * (packets - 11), 0)?;
-        let interleaver = ByteInter::open(alloc)?;
-        let bytes = vec![in alloc; 0; size]?;
-        let adjusted = vec![in alloc; 0; size]?;
+        let stage = ByteInter::open(alloc)?;
+        let interleaver = Adjusted::open(alloc, 204 * (packets - 11), stage, size)?;
+        let units = vec![in alloc; 0; size]?;
+        let placed = vec![in alloc; 0; size]?;
         Ok(CodedLayer {
             mode,
             layer: *setting,
-            adjustment,
             interleaver,
             encoder: Encoder::start(setting.rate()),
-            bytes,
-            adjusted,
+            units,
+            placed,
         })
+    }
+
+    /// Transmission mode.
+    pub fn mode(&self) -> Mode
+        ensures { result ≡ mode_of self.now }
+    {
+        self.mode
+    }
+
+    /// Setting of the layer.
+    pub fn layer(&self) -> LayerSetting
+        ensures { result ≡ layer_of self.now }
+    {
+        self.layer
     }
 
     /// Writes the coded bits of the next frame: those of its packets, which are as many as the layer has in a frame,
@@ -72,9 +85,8 @@ impl CodedLayer {
         ensures mode { mode_of self.new ≡ mode_of self.old }
         ensures layer { layer_of self.new ≡ layer_of self.old }
     {
-        put_units(packets, &mut self.bytes);
-        self.adjustment.feed(&self.bytes, &mut self.adjusted);
-        self.interleaver.feed(&self.adjusted, &mut self.bytes);
-        self.encoder.feed(&self.bytes, out);
+        put_units(packets, &mut self.units);
+        self.interleaver.feed(&self.units, &mut self.placed);
+        self.encoder.feed(&self.placed, out);
     }
 }

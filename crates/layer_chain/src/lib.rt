@@ -8,12 +8,19 @@
 //! Memory is taken at `open` alone.
 #![tactic(auto)]
 
+mod adjusted;
+mod bit_stage;
+mod cell_numbers;
 mod coded_layer;
 mod laws;
+mod layer_coder;
 mod units;
 
 pub use coded_layer::CodedLayer;
-pub use laws::prefix_law;
+pub use laws::{cell_prefix_law, distinct_places_law, prefix_law, read_back_law};
+pub use layer_coder::{Held, LayerCoder};
 
+#[cfg(test)]
+mod cell_tests;
 #[cfg(test)]
 mod tests;

@@ -20,7 +20,7 @@ fn numbered(m: usize) -> Result<Packet, Fail> {
 }
 
 /// So many packets, numbered from `first` on.
-fn numbered_from(alloc: Global, first: usize, count: usize) -> Result<Vec<Packet>, Fail>
+pub fn numbered_from(alloc: Global, first: usize, count: usize) -> Result<Vec<Packet>, Fail>
     ensures { IfOk result (λ packets. vec_len packets ≡ count) }
 {
     let mut packets = Vec::new(alloc);
@@ -31,7 +31,7 @@ fn numbered_from(alloc: Global, first: usize, count: usize) -> Result<Vec<Packet
 }
 
 /// So many null packets.
-fn null_packets(alloc: Global, count: usize) -> Result<Vec<Packet>, Fail>
+pub fn null_packets(alloc: Global, count: usize) -> Result<Vec<Packet>, Fail>
     ensures { IfOk result (λ packets. vec_len packets ≡ count) }
 {
     let mut packets = Vec::new(alloc);

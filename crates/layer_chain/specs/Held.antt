@@ -1,0 +1,22 @@
+-- The items that the delay lines of a layer's coder hold.
+use Rattle.std.specs.Prelude.{ℕ, zero, suc, ◌+◌, List, [], length, slice_index_or}
+use Rattle.isdbt_base.specs.Numbers.{cell_bits}
+use Rattle.time_inter.specs.LayerStage as time
+use Rattle.layer_chain.specs.BitStage as bit
+use Rattle.layer_chain.specs.LayerCoder.{layer_of, cells_of}
+use Rattle.layer_chain.specs.declared.layer_coder.LayerCoder.{LayerCoder}
+
+-- the items that the first so many paths hold
+unfoldable pub items_in : {X : Type 0} → (ℕ → List X) → ℕ → ℕ
+items_in held zero = 0
+items_in held (suc n) = items_in held n + length (held n)
+
+-- in the adjustment and in the stage behind it
+abbrev pub bytes_in : LayerCoder → ℕ
+bytes_in s = length s.coded.interleaver.line + items_in (λ p. slice_index_or s.coded.interleaver.stage p []) 12
+
+abbrev pub bits_in : LayerCoder → ℕ
+bits_in s = length s.bits.line + items_in (bit.held_of s.bits.stage) (cell_bits (layer_of s).modulation)
+
+abbrev pub cells_in : LayerCoder → ℕ
+cells_in s = length s.cells.line + items_in (time.held_of s.cells.stage) (cells_of s)

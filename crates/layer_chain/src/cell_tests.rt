@@ -1,0 +1,180 @@
+//! Cells that are known: by hand, and sums of an independent program's.
+
+ghost use Rattle.std.specs.Prelude.{◌≡◌, ◌*◌, IfOk, vec_len};
+ghost use Rattle.isdbt_base.specs.Numbers.{layer_cells};
+
+use crate::adjusted::Adjusted;
+use crate::bit_stage::BitStage;
+use crate::cell_numbers::number_cells;
+use crate::tests::{null_packets, numbered_from};
+use crate::{Held, LayerCoder};
+use cell_map::Cell;
+use delay_line::Stage;
+use isdbt_base::{DepthCode, LayerSetting, Mode, Modulation, Rate};
+use std::alloc::Global;
+use std::test::Fail;
+use time_inter::LayerInter;
+
+const ZEROS: Cell = Cell { i: 1, q: 1 };
+
+/// Cells of a frame.
+fn frame_cells(layer: &LayerSetting, mode: Mode) -> usize
+    ensures { result ≡ 204 * layer_cells mode layer.now }
+{
+    204 * layer.cells(mode) as usize
+}
+
+#[test]
+fn first_cells_of_one_layer(rt: HostRuntime) -> Result<(), Fail> {
+    let alloc = rt.alloc();
+    let layer = LayerSetting::new(13, Modulation::Qpsk, Rate::R12, DepthCode::D0).ok_or("refused")?;
+    let mut coder = LayerCoder::open(alloc, &layer, Mode::M1)?;
+    let packets = null_packets(alloc, layer.packets(Mode::M1) as usize)?;
+    let mut out = vec![in alloc; Cell { i: 0, q: 0 }; frame_cells(&layer, Mode::M1)]?;
+    coder.frame(&packets, &mut out);
+    assert_eq!(rt; packets.len(), 156);
+    assert_eq!(rt; out.len(), 254_592);
+    let cell = |i, q| Cell { i, q };
+    let next = [
+        cell(1, 1),
+        cell(1, 1),
+        cell(1, 1),
+        cell(-1, 1),
+        cell(1, 1),
+        cell(-1, 1),
+        cell(-1, 1),
+        cell(1, 1),
+    ];
+    assert!(rt; out.get(191 * 1248 + 648..191 * 1248 + 656) == Some(next.as_slice()));
+    assert_eq!(rt;
+        out.iter().position(|cell| *cell != ZEROS),
+        Some(191 * 1248 + 651)
+    );
+    Ok(())
+}
+
+#[test]
+fn held_items(rt: HostRuntime) -> Result<(), Fail> {
+    let layer = LayerSetting::new(13, Modulation::Qpsk, Rate::R12, DepthCode::D3).ok_or("refused")?;
+    let coder = LayerCoder::open(rt.alloc(), &layer, Mode::M1)?;
+    let wanted = Held {
+        bytes: 30_702,
+        bits: 4872,
+        cells: 1_088_256,
+    };
+    assert_eq!(rt; coder.held(), wanted);
+    Ok(())
+}
+
+/// Passes the coded bits of a frame on, of a layer of one segment with QPSK in mode 1, to the numbers of its cells.
+fn pass(
+    bits: &mut Adjusted<BitStage>,
+    cells: &mut Adjusted<LayerInter>,
+    coded: &[bool],
+    out: &mut [u8],
+) {
+    let mut placed = [false; 39_168];
+    let mut numbers = [0u8; 19_584];
+    if coded.len() == 39_168 && bits.middle.len() == 39_168 && bits.stage.paths() == 2 {
+        bits.feed(coded, &mut placed);
+    }
+    number_cells(&placed, 2, &mut numbers);
+    if out.len() == 19_584 && cells.middle.len() == 19_584 && cells.stage.paths() == 96 {
+        cells.feed(&numbers, out);
+    }
+}
+
+/// The symbol, the place and the bits of the first cell that is not of zeros in two frames, where of all coded bits this
+/// one alone is one: mode 1, one segment, QPSK and a length of 4 symbols.
+fn place_of_bit(alloc: Global, coded: usize) -> Result<Option<(usize, usize, u8)>, Fail> {
+    let layer = LayerSetting::new(1, Modulation::Qpsk, Rate::R12, DepthCode::D1).ok_or("refused")?;
+    let stage = BitStage::open(alloc, Modulation::Qpsk)?;
+    let mut bits = Adjusted::open(alloc, 2 * (2 * 96 - 120), stage, 39_168)?;
+    let stage = LayerInter::open(alloc, &layer, Mode::M1)?;
+    let mut cells = Adjusted::open(alloc, 28 * 96, stage, 19_584)?;
+    let mut first = [false; 39_168];
+    if let Some(bit) = first.get_mut(coded) {
+        *bit = true;
+    }
+    let mut frames = [[0u8; 19_584]; 2];
+    pass(&mut bits, &mut cells, &first, &mut frames[0]);
+    pass(&mut bits, &mut cells, &[false; 39_168], &mut frames[1]);
+    for (frame, numbers) in frames.iter().enumerate() {
+        for (place, number) in numbers.iter().enumerate() {
+            if *number != 0 {
+                return Ok(Some((
+                    frame.wrapping_mul(204).wrapping_add(place / 96),
+                    place % 96,
+                    *number,
+                )));
+            }
+        }
+    }
+    Ok(None)
+}
+
+#[test]
+fn places_of_two_bits(rt: HostRuntime) -> Result<(), Fail> {
+    assert_eq!(rt; place_of_bit(rt.alloc(), 0)?, Some((316, 72, 0b10)));
+    assert_eq!(rt; place_of_bit(rt.alloc(), 1)?, Some((30, 0, 0b01)));
+    Ok(())
+}
+
+/// The sums of place times value over the cells, of each axis, modulo 65521.
+fn sums_of(cells: &[Cell]) -> (i64, i64) {
+    let mut i = 0i64;
+    let mut q = 0i64;
+    for (place, cell) in cells.iter().enumerate() {
+        i = i.wrapping_add((place as i64).wrapping_mul(i64::from(cell.i)));
+        q = q.wrapping_add((place as i64).wrapping_mul(i64::from(cell.q)));
+    }
+    (i.rem_euclid(65521), q.rem_euclid(65521))
+}
+
+/// The sums of the first three frames of numbered packets.
+fn three_frames(alloc: Global, layer: &LayerSetting, mode: Mode) -> Result<[(i64, i64); 3], Fail> {
+    let mut coder = LayerCoder::open(alloc, layer, mode)?;
+    let count = layer.packets(mode) as usize;
+    let mut out = vec![in alloc; ZEROS; frame_cells(layer, mode)]?;
+    let mut sums = [(0, 0); 3];
+    for frame in 0..3 {
+        let packets = numbered_from(alloc, frame * count, count)?;
+        coder.frame(&packets, &mut out);
+        sums[frame] = sums_of(&out);
+    }
+    Ok(sums)
+}
+
+#[test]
+fn cells_of_an_independent_program(rt: HostRuntime) -> Result<(), Fail> {
+    let alloc = rt.alloc();
+    let setting = |segments, modulation, rate, depth| LayerSetting::new(
+        segments, modulation, rate, depth,
+    ).ok_or("refused");
+    let rows = [
+        (
+            Mode::M1,
+            setting(1, Modulation::Qam16, Rate::R34, DepthCode::D1)?,
+            [(36265, 10747), (42045, 29275), (19653, 16466)],
+        ),
+        (
+            Mode::M1,
+            setting(2, Modulation::Qam64, Rate::R78, DepthCode::D0)?,
+            [(51614, 49508), (64901, 23114), (2038, 28771)],
+        ),
+        (
+            Mode::M2,
+            setting(1, Modulation::Qpsk, Rate::R56, DepthCode::D1)?,
+            [(41931, 44885), (26025, 30430), (35830, 49651)],
+        ),
+        (
+            Mode::M3,
+            setting(1, Modulation::Qam64, Rate::R23, DepthCode::D1)?,
+            [(55244, 55244), (13886, 59000), (8639, 54530)],
+        ),
+    ];
+    for (mode, layer, sums) in rows {
+        assert!(rt; three_frames(alloc, &layer, mode)? == sums);
+    }
+    Ok(())
+}
