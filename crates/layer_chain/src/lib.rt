@@ -1,9 +1,10 @@
-//! One layer of the chain, from its packets to what is sent of them (ARIB STD-B31 3.4 to 3.8).
+//! One layer of the chain, from its packets to its cells (ARIB STD-B31 3.4 to 3.11).
 //!
 //! A layer's packets come frame by frame, as many as the layer has in a frame. Of each the unit of 204 bytes is sent: its
 //! codeword without the first byte, with the sequence of energy dispersal added, and the sync byte of the next. The
 //! sequence begins anew at each frame. Delay adjustment, byte interleaving and the inner code make coded bits of the
-//! units; they begin with empty memories at each epoch.
+//! units (`CodedLayer`); bit adjustment and interleaving, mapping, symbol adjustment and time interleaving make cells of
+//! them (`LayerCoder`). Every delay line and the encoder begin with zeros at each epoch.
 //!
 //! Memory is taken at `open` alone.
 #![tactic(auto)]
