@@ -6,7 +6,7 @@ ghost use Rattle.conv_punct.specs.CodedBits.{bit_of, coded_bit};
 ghost use Rattle.conv_punct.specs.StandsFor.{StandsFor, BeginsWith, coded_size};
 
 use crate::outputs::{joined, outputs_of};
-use crate::puncture::put_patterns;
+use crate::puncture::put_coded;
 use isdbt_base::Rate;
 
 /// Encoder of the inner code at one rate.
@@ -59,7 +59,7 @@ impl Encoder {
         for index in 0..bytes.len() / unit {
             let start = index * unit;
             inputs = joined(inputs, &bytes[start..start + unit]);
-            at = put_patterns(out, at, self.rate, &outputs_of(inputs), patterns);
+            at = put_coded(out, at, self.rate, &outputs_of(inputs), patterns);
         }
         self.newest = (inputs & 0x3F) as u8;
         at

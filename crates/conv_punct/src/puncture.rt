@@ -11,6 +11,7 @@ use crate::pattern::{Sent, pattern_of};
 use isdbt_base::{Rate, rate_pair};
 
 /// The output of a pattern whose first step has bit `first`.
+#[inline(always)]
 fn sent_bit(sent: Sent, outputs: &Outputs, first: u32) -> bool
     requires within { step_of (output_of sent) ≤ first }
     requires place { first < 64 }
@@ -23,6 +24,7 @@ fn sent_bit(sent: Sent, outputs: &Outputs, first: u32) -> bool
 }
 
 /// Puts the coded bits of one pattern, whose last step has bit `last`, at a place of `out`, and says where they end.
+#[inline(always)]
 fn put_pattern(out: &mut [bool], at: usize, rate: Rate, outputs: &Outputs, last: u32) -> usize
     requires room { at + rate_bits rate ≤ length out.old }
     requires place { last + rate_steps rate ≤ 64 }
@@ -40,13 +42,8 @@ fn put_pattern(out: &mut [bool], at: usize, rate: Rate, outputs: &Outputs, last:
 }
 
 /// Puts the coded bits of so many patterns, the last steps of `outputs`, at a place of `out`, and says where they end.
-pub fn put_patterns(
-    out: &mut [bool],
-    at: usize,
-    rate: Rate,
-    outputs: &Outputs,
-    patterns: u32,
-) -> usize
+#[inline(always)]
+fn put_patterns(out: &mut [bool], at: usize, rate: Rate, outputs: &Outputs, patterns: u32) -> usize
     requires room { at + rate_bits rate * patterns ≤ length out.old }
     requires few { rate_steps rate * patterns ≤ 56 }
     ensures end { result ≡ at + rate_bits rate * patterns }
@@ -60,4 +57,21 @@ pub fn put_patterns(
         end = put_pattern(out, end, rate, outputs, last);
     }
     end
+}
+
+/// The same, with code of its own for each rate.
+pub fn put_coded(out: &mut [bool], at: usize, rate: Rate, outputs: &Outputs, patterns: u32) -> usize
+    requires room { at + rate_bits rate * patterns ≤ length out.old }
+    requires few { rate_steps rate * patterns ≤ 56 }
+    ensures end { result ≡ at + rate_bits rate * patterns }
+    ensures coded { (u : ℕ → Bool) (i before : ℕ) → AreOutputs outputs.now (rate_steps rate * patterns) u i → i ≡ rate_steps rate * (before + patterns) → AreCoded rate u (rate_bits rate * before) out.new at (rate_bits rate * patterns) }
+    ensures others { ChangesOnly out.old out.new at (rate_bits rate * patterns) }
+{
+    match rate {
+        Rate::R12 => put_patterns(out, at, Rate::R12, outputs, patterns),
+        Rate::R23 => put_patterns(out, at, Rate::R23, outputs, patterns),
+        Rate::R34 => put_patterns(out, at, Rate::R34, outputs, patterns),
+        Rate::R56 => put_patterns(out, at, Rate::R56, outputs, patterns),
+        Rate::R78 => put_patterns(out, at, Rate::R78, outputs, patterns),
+    }
 }

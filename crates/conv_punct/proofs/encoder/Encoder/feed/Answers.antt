@@ -21,8 +21,8 @@ loop-index-init c =
       others = subst (ChangesOnly c.args.out.now c.args.out.now 0) none (ChangesOnly-none c.args.out.now 0);
     }
 
-pub put_patterns-at-requires-clause-room : goal.put_patterns-at-requires-clause-room
-put_patterns-at-requires-clause-room c =
+pub put_coded-at-requires-clause-room : goal.put_coded-at-requires-clause-room
+put_coded-at-requires-clause-room c =
     let n = rate_bits c.args.self.now.rate in
     let within = patterns-within c.args.self.now.rate c.unit_of-unit.result.0 c.unit_of-unit.result.1 (length c.args.bytes.now) c.loop-index.index c.unit_of-unit.ensures.patterns c.unit_of-unit.ensures.few.0 c.loop-index-test.true in
     let all = mul-le-mul_left n within in
@@ -38,7 +38,7 @@ loop-index-preserved c =
     let m = c.loop-index.index in
     let bytes = c.args.bytes.now in
     let whole = c.unit_of-unit.ensures.patterns in
-    let new = c.put_patterns-at.new.out in
+    let new = c.put_coded-at.new.out in
     let within = unit-within size (length bytes) m c.unit_of-unit.ensures.few.0 c.loop-index-test.true in
     let start : m * size ≡ size * m = omega arith in
     let piece : m * size + size - m * size ≡ size = omega arith in
@@ -51,7 +51,7 @@ loop-index-preserved c =
     (c.joined-inputs.ensures (bit_of stream) i (c.loop-index.invariant.newest fed stream stands begins)
     (λ j h. piece-bits fed bytes stream (m * size) size (m * size + size - m * size) piece begins (omega (arith, within, start)) j (omega (arith, h, length_of)) ∙ ap (λ a. bit_of stream (8 * (length fed + a) + j)) start))) in
     record {
-      place = omega (arith, c.put_patterns-at.ensures.end, c.loop-index.invariant.place);
+      place = omega (arith, c.put_coded-at.ensures.end, c.loop-index.invariant.place);
       newest = λ fed stream stands begins. (let e : 8 * (length fed + size * m) + 8 * size ≡ 8 * (length fed + size * (m + 1)) = omega arith in
           λ d h. joined fed stream stands begins d (omega arith) ∙ ap (λ i. earlier_bit (bit_of stream) i (d + 1)) e);
       coded = λ fed stream stands begins. (
@@ -64,10 +64,10 @@ loop-index-preserved c =
           let part : 8 * size * m ≡ k * patterns * m = ap (λ x. x * m) whole in
           let number : n * before ≡ coded_size rate (length fed) + n * (patterns * m) = omega arith in
           subst (λ s. AreCoded rate u (coded_size rate (length fed)) new 0 s) count
-          (AreCoded-more rate u (coded_size rate (length fed)) (n * before) c.loop-index.out new 0 (n * (patterns * m)) c.loop-index.at (n * patterns) place number c.put_patterns-at.ensures.others
+          (AreCoded-more rate u (coded_size rate (length fed)) (n * before) c.loop-index.out new 0 (n * (patterns * m)) c.loop-index.at (n * patterns) place number c.put_coded-at.ensures.others
           (c.loop-index.invariant.coded fed stream stands begins)
-          (c.put_patterns-at.ensures.coded u i before told (omega (arith, fed_whole, part, whole)))));
-      others = subst (ChangesOnly c.args.out.now new 0) count (ChangesOnly-more c.args.out.now c.loop-index.out new 0 (n * (patterns * m)) c.loop-index.at (n * patterns) place c.loop-index.invariant.others c.put_patterns-at.ensures.others);
+          (c.put_coded-at.ensures.coded u i before told (omega (arith, fed_whole, part, whole)))));
+      others = subst (ChangesOnly c.args.out.now new 0) count (ChangesOnly-more c.args.out.now c.loop-index.out new 0 (n * (patterns * m)) c.loop-index.at (n * patterns) place c.loop-index.invariant.others c.put_coded-at.ensures.others);
     }
 
 pub returns-clause-count : goal.returns-clause-count
