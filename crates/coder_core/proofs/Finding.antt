@@ -2,6 +2,7 @@
 use Rattle.std.proofs.Common.{◌≡◌, ℕ, zero, suc, ◌+◌, ◌<◌, Bool, true, false, cond, List, [], ◌∷◌, length, refl, ap, sym, ◌∙◌, arith, inl, inr}
 use Rattle.std.proofs.lemmas.Bool.{cases_lt}
 use Rattle.std.specs.Prelude.{find, filter, Some, None}
+use Rattle.std.specs.declared.option.Option.{Option}
 use Rattle.std.specs.List.{range_with_len}
 use Rattle.std.specs.Int.{from_bool}
 
@@ -56,3 +57,12 @@ counted-more test a (suc n) =
     let less = counted_one (test a) a (filter test (range_with_len (a + 1) n)) in
     let size : suc n + 1 ≡ suc (n + 1) = omega arith in
     rw (size, front, less) (omega (arith, more, last))
+
+-- what was found passes the test
+found_in : (test : ℕ → Bool) (a i : ℕ) (rest : Option ℕ) (b : Bool) → test a ≡ b → cond b (Some a) rest ≡ Some i → (rest ≡ Some i → test i ≡ true) → test i ≡ true
+found_in test a i rest true passes e later = (let same : a ≡ i = cc in ap test (sym same) ∙ passes)
+found_in test a i rest false fails e later = later e
+
+pub find-passes : (test : ℕ → Bool) (a n i : ℕ) → find test (range_with_len a n) ≡ Some i → test i ≡ true
+find-passes test a zero i found = absurd (cc)
+find-passes test a (suc n) i found = found_in test a i (find test (range_with_len (a + 1) n)) (test a) refl found (find-passes test (a + 1) n i)

@@ -1,5 +1,5 @@
 -- Which frames of broadcast packets are not coded, and why.
-use Rattle.std.specs.Prelude.{ℕ, ◌+◌, ◌/◌, Bool, true, false, not, ◌==◌, Option, Some, None, List, [], ◌∷◌, find, length, slice_index, take, drop, filter, if◌then◌else◌}
+use Rattle.std.specs.Prelude.{◌≡◌, ℕ, ◌+◌, ◌/◌, Bool, true, false, not, ◌==◌, Option, Some, None, List, [], ◌∷◌, find, length, slice_index, take, drop, filter, if◌then◌else◌}
 use Rattle.std.specs.List.{range_with_len}
 use Rattle.std.specs.Option.{option_map}
 use Rattle.isdbt_base.specs.declared.kinds.Mode.{Mode}
@@ -10,6 +10,7 @@ use Rattle.isdbt_base.specs.Numbers.{packets_per_frame}
 use Rattle.isdbt_base.specs.Outcome.{first_some}
 use Rattle.ts_packet.specs.Packets.{piece, sync_byte}
 use Rattle.bts_info.specs.Information.{has_head, layer_named}
+use Rattle.edge_io.specs.declared.shelf.Seat.TheVariants as seats
 use Rattle.coder_core.specs.declared.fault.CodeFault.{CodeFault}
 use Rattle.coder_core.specs.declared.fault.CodeFault.TheVariants.{BadSync, HeadMisplaced, WrongCount}
 
@@ -49,7 +50,7 @@ layer_count frame x = length (layer_slots frame x)
 
 -- the causes, of a frame with a number, before whose first packet so many packets stand
 abbrev pub bad_sync : ℕ → List ℕ → Option CodeFault
-bad_sync first frame = option_map (λ slot. BadSync (first + slot)) (bad_sync_slot frame)
+bad_sync first frame = option_map (λ slot. BadSync seats.In (first + slot)) (bad_sync_slot frame)
 
 abbrev pub misplaced : ℕ → List ℕ → Option CodeFault
 misplaced number frame = option_map (λ slot. HeadMisplaced number slot) (misplaced_slot frame)
@@ -62,3 +63,9 @@ wrong_count s mode number frame x =
 unfoldable pub refusal : Parameters → Mode → ℕ → ℕ → List ℕ → Option CodeFault
 refusal s mode number first frame = first_some (bad_sync first frame ∷ misplaced number frame
     ∷ wrong_count s mode number frame A ∷ wrong_count s mode number frame B ∷ wrong_count s mode number frame C ∷ [])
+
+-- a frame that can be coded: each packet begins with the sync byte, slot 0 alone bears the head flag, and each layer has its count of packets
+pub record CanCode (s : Parameters) (mode : Mode) (frame : List ℕ) : Type 0 where
+  pub sync : bad_sync_slot frame ≡ None
+  pub head : misplaced_slot frame ≡ None
+  pub counts : (x : Layer) → layer_count frame x ≡ number_of (packets_per_frame mode) (layer_of s x)

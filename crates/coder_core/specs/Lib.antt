@@ -1,1 +1,10 @@
+pub mod Coder
 pub mod FrameChecks
+pub mod InputFrames
+pub mod LayerPart
+pub mod SentCells
+pub mod CodeRefusals
+pub mod Answers
+pub mod Reading
+pub mod Symbols
+pub mod UsedLayers

@@ -1,21 +1,22 @@
 //! The check of a frame of broadcast packets.
 
-ghost use Rattle.std.specs.Prelude.{◌≡◌, ◌+◌, ◌*◌, ◌/◌, ◌≤◌, ◌^◌, None, Some, length, MatchResult};
+ghost use Rattle.std.specs.Prelude.{◌≡◌, ◌+◌, ◌*◌, ◌/◌, ◌≤◌, ◌^◌, None, Some, IfOk, length, MatchResult};
 ghost use Rattle.bts_info.specs.Information.{fields_of, has_head, layer_named};
-ghost use Rattle.coder_core.specs.FrameChecks.{bad_sync_slot, misplaced_slot, layer_count, bad_sync, misplaced, wrong_count, refusal, information_in, same_layer};
+ghost use Rattle.coder_core.specs.FrameChecks.{bad_sync_slot, misplaced_slot, layer_count, bad_sync, misplaced, wrong_count, refusal, information_in, same_layer, CanCode};
 
 use crate::fault::CodeFault;
 use bts_info::{Info, layer_of, read};
+use edge_io::Seat;
 use isdbt_base::{Layer, Mode, Setting};
 
 /// Bytes of a broadcast packet.
-const PACKET: usize = 204;
+pub const PACKET: usize = 204;
 
 /// The first byte of a packet.
-const SYNC: u8 = 0x47;
+pub const SYNC: u8 = 0x47;
 
 /// Slots of a frame.
-fn slots_of(frame: &[u8]) -> u32
+pub fn slots_of(frame: &[u8]) -> u32
     requires { length frame.now ≤ 2 ^ 32 }
     ensures value { result ≡ length frame.now / 204 }
 {
@@ -34,7 +35,7 @@ fn info_in(frame: &[u8], slot: u32) -> Info
 }
 
 /// Whether the packet in a slot bears the frame head flag.
-fn bears_head(frame: &[u8], slot: u32) -> bool
+pub fn bears_head(frame: &[u8], slot: u32) -> bool
     requires { 204 * slot + 204 ≤ length frame.now }
     ensures { result ≡ has_head (information_in frame.now slot) }
 {
@@ -50,7 +51,7 @@ fn layer_in(frame: &[u8], slot: u32) -> Option<Layer>
 }
 
 /// Whether the packet in a slot names this layer.
-fn names(frame: &[u8], slot: u32, layer: Layer) -> bool
+pub fn names(frame: &[u8], slot: u32, layer: Layer) -> bool
     requires { 204 * slot + 204 ≤ length frame.now }
     ensures { result ≡ same_layer layer (layer_named (information_in frame.now slot)) }
 {
@@ -110,6 +111,7 @@ fn bad_sync(first_packet: u64, frame: &[u8]) -> Option<CodeFault>
 {
     let slot = bad_sync_slot(frame)?;
     Some(CodeFault::BadSync {
+        seat: Seat::In,
         packet: first_packet + u64::from(slot),
     })
 }
@@ -180,7 +182,8 @@ pub fn check_frame(
 ) -> Result<(), CodeFault>
     requires first { first_packet ≤ 2 ^ 60 }
     requires size { length frame.now ≤ 2 ^ 32 }
-    ensures { MatchResult result (λ coded. refusal setting.now mode number first_packet frame.now ≡ None) (λ fault. refusal setting.now mode number first_packet frame.now ≡ Some fault) }
+    ensures answer { MatchResult result (λ coded. refusal setting.now mode number first_packet frame.now ≡ None) (λ fault. refusal setting.now mode number first_packet frame.now ≡ Some fault) }
+    ensures codable { IfOk result (λ coded. CanCode setting.now mode frame.now) }
 {
     match cause(setting, mode, number, first_packet, frame) {
         Some(fault) => Err(fault),

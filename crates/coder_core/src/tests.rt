@@ -1,6 +1,7 @@
 //! Frames that can be coded, and frames that can't.
 
 use crate::{CodeFault, check_frame};
+use edge_io::Seat;
 use isdbt_base::{DepthCode, Layer, LayerSetting, Mode, Modulation, Rate, Setting};
 use std::alloc::Global;
 use std::test::Fail;
@@ -88,10 +89,16 @@ fn first_of_several_causes(rt: HostRuntime) -> Result<(), Fail> {
     let none = Err(CodeFault::HeadMisplaced { frame: 2, slot: 0 });
     assert_eq!(rt; checked(&frame)?, none);
     put(&mut frame, 4607, 0, 0xB8);
-    let last = Err(CodeFault::BadSync { packet: 13_824 });
+    let last = Err(CodeFault::BadSync {
+        seat: Seat::In,
+        packet: 13_824,
+    });
     assert_eq!(rt; checked(&frame)?, last);
     put(&mut frame, 5, 0, 0);
-    let fifth = Err(CodeFault::BadSync { packet: 9222 });
+    let fifth = Err(CodeFault::BadSync {
+        seat: Seat::In,
+        packet: 9222,
+    });
     assert_eq!(rt; checked(&frame)?, fifth);
     Ok(())
 }

@@ -1,0 +1,102 @@
+use Rattle.std.proofs.Common.{◌≡◌, ℕ, ◌*◌, ◌<◌, ◌∙◌, length, refl, sym, ap, subst, arith, length-drop}
+use Rattle.std.proofs.lemmas.List.{length-take-le}
+use Rattle.edge_io.specs.declared.shelf.Seat.TheVariants as seats
+use Rattle.coder_core.proofs.Searching.{begin, Came, came, nothing_first, nothing_more, refused, refused_far, next, found, read_stopped, packet_answer, packet_cause}
+use Rattle.coder_core.proofs.search.find_head.Goals as goal
+
+pub loop-number-init : goal.loop-number-init
+loop-number-init g c = record { is_open = c.requires.is_open; still_open = refl; kept = refl; told = λ input told. begin input _ told }
+
+pub returns-in-Err-clause-answer : goal.returns-in-Err-clause-answer
+returns-in-Err-clause-answer g c = λ input told.
+    let so_far = c.loop-number.invariant.told input told in
+    let size : length c.fill_behind.new.buf ≡ 204 = omega (arith, c.fill_behind.auto.buf, c.loop-number.auto.packet, c.requires.size) in
+    read_stopped input c.loop-number.number c.fill_behind.new.buf _ _ (omega (arith, size)) (omega (arith, size, c.loop-number-test.true)) so_far (c.in-Err.ensures.answer _ so_far.left_is)
+
+pub returns-then-number-eq0-clause-answer : goal.returns-then-number-eq0-clause-answer
+returns-then-number-eq0-clause-answer g c = λ input told.
+    let so_far = c.loop-number.invariant.told input told in
+    let size : length c.fill_behind.new.buf ≡ 204 = omega (arith, c.fill_behind.auto.buf, c.loop-number.auto.packet, c.requires.size) in
+    let left' = g.H.Shelf.left c.fill_behind.new.shelf seats.In in
+    let now : Came input c.loop-number.number c.in-Ok.count c.fill_behind.new.buf left' = came input c.loop-number.number _ c.fill_behind.new.buf _ _ c.in-Ok.count size so_far (c.in-Ok.ensures.answer _ so_far.left_is) in
+    let counted = now.count_is in
+    let P : ℕ → Type 0 = λ n. Came input c.loop-number.number n c.fill_behind.new.buf left' in
+    let none : Came input c.loop-number.number 0 c.fill_behind.new.buf left' = subst P c.if-count-eq0.true now in
+    nothing_first input c.loop-number.number _ _ c.fill_behind.new.buf c.if-number-eq0.true so_far none
+
+pub returns-else-number-eq0-clause-answer : goal.returns-else-number-eq0-clause-answer
+returns-else-number-eq0-clause-answer g c = λ input told.
+    let so_far = c.loop-number.invariant.told input told in
+    let size : length c.fill_behind.new.buf ≡ 204 = omega (arith, c.fill_behind.auto.buf, c.loop-number.auto.packet, c.requires.size) in
+    let left' = g.H.Shelf.left c.fill_behind.new.shelf seats.In in
+    let now : Came input c.loop-number.number c.in-Ok.count c.fill_behind.new.buf left' = came input c.loop-number.number _ c.fill_behind.new.buf _ _ c.in-Ok.count size so_far (c.in-Ok.ensures.answer _ so_far.left_is) in
+    let counted = now.count_is in
+    nothing_more input c.loop-number.number _ (omega (arith, c.if-number-eq0.false)) (omega (arith, counted, c.if-count-eq0.true)) so_far
+
+pub returns-in-Some-clause-answer : goal.returns-in-Some-clause-answer
+returns-in-Some-clause-answer g c = λ input told.
+    let so_far = c.loop-number.invariant.told input told in
+    let size : length c.fill_behind.new.buf ≡ 204 = omega (arith, c.fill_behind.auto.buf, c.loop-number.auto.packet, c.requires.size) in
+    let left' = g.H.Shelf.left c.fill_behind.new.shelf seats.In in
+    let now : Came input c.loop-number.number c.in-Ok.count c.fill_behind.new.buf left' = came input c.loop-number.number _ c.fill_behind.new.buf _ _ c.in-Ok.count size so_far (c.in-Ok.ensures.answer _ so_far.left_is) in
+    let counted = now.count_is in
+    let some : 0 < c.in-Ok.count = omega (arith, c.if-count-eq0.false) in
+    let why = c.in-Some.ensures.refusal input c.loop-number-test.true some counted now.front in
+    packet_answer input c.fill_behind.new.buf left' c.in-Some.fault c.in-Some.ensures.kind (refused input c.loop-number.number _ c.in-Some.fault (omega (arith, counted, some)) so_far why)
+
+pub returns-in-Some-clause-cause : goal.returns-in-Some-clause-cause
+returns-in-Some-clause-cause g c = packet_cause _ _ c.in-Some.fault c.in-Some.ensures.kind (c.in-Ok.ensures.cause.kept ∙ c.loop-number.invariant.kept)
+
+pub returns-then-bears_head-clause-answer : goal.returns-then-bears_head-clause-answer
+returns-then-bears_head-clause-answer g c = λ input told.
+    let so_far = c.loop-number.invariant.told input told in
+    let size : length c.fill_behind.new.buf ≡ 204 = omega (arith, c.fill_behind.auto.buf, c.loop-number.auto.packet, c.requires.size) in
+    let left' = g.H.Shelf.left c.fill_behind.new.shelf seats.In in
+    let now : Came input c.loop-number.number c.in-Ok.count c.fill_behind.new.buf left' = came input c.loop-number.number _ c.fill_behind.new.buf _ _ c.in-Ok.count size so_far (c.in-Ok.ensures.answer _ so_far.left_is) in
+    let counted = now.count_is in
+    let some : 0 < c.in-Ok.count = omega (arith, c.if-count-eq0.false) in
+    let why = c.in-None.ensures.refusal input c.loop-number-test.true some counted now.front in
+    found input c.loop-number.number c.in-Ok.count c.fill_behind.new.buf _ _ size so_far now (sym why) (sym c.bears_head.ensures ∙ c.if-bears_head.true)
+
+pub loop-number-preserved : goal.loop-number-preserved
+loop-number-preserved g c = record {
+  is_open = ap (λ f. f seats.In) c.fill_behind.ensures.still_open ∙ c.loop-number.invariant.is_open;
+  still_open = c.fill_behind.ensures.still_open ∙ c.loop-number.invariant.still_open;
+  kept = c.in-Ok.ensures.cause.kept ∙ c.loop-number.invariant.kept;
+  told = λ input told. (
+      let so_far = c.loop-number.invariant.told input told in
+      let size : length c.fill_behind.new.buf ≡ 204 = omega (arith, c.fill_behind.auto.buf, c.loop-number.auto.packet, c.requires.size) in
+      let left' = g.H.Shelf.left c.fill_behind.new.shelf seats.In in
+      let now : Came input c.loop-number.number c.in-Ok.count c.fill_behind.new.buf left' = came input c.loop-number.number _ c.fill_behind.new.buf _ _ c.in-Ok.count size so_far (c.in-Ok.ensures.answer _ so_far.left_is) in
+      let counted = now.count_is in
+      let some : 0 < c.in-Ok.count = omega (arith, c.if-count-eq0.false) in
+      let why = c.in-None.ensures.refusal input c.loop-number-test.true some counted now.front in
+      next input c.loop-number.number c.in-Ok.count c.fill_behind.new.buf _ _ size so_far now (sym why) (sym c.bears_head.ensures ∙ c.if-bears_head.false));
+}
+
+pub returns-in-Ok-eq0-clause-answer : goal.returns-in-Ok-eq0-clause-answer
+returns-in-Ok-eq0-clause-answer g c = λ input told.
+    let so_far = c.loop-number.invariant.told input told in
+    let filled = c.in-Ok-eq0.ensures.answer _ so_far.left_is in
+    let one : length c.fill_behind-2.new.buf ≡ 1 = c.fill_behind-2.auto.buf ∙ length-take-le 1 c.loop-number.packet (omega (arith, c.loop-number.auto.packet, c.requires.size)) in
+    let last : c.loop-number.number ≡ 65536 = omega (arith, c.loop-number-test.false, c.loop-number.auto.number-end) in
+    let rest = length-drop (204 * c.loop-number.number) input in
+    let counted = filled.count in
+    nothing_more input c.loop-number.number _ (omega (arith, last)) (omega (arith, counted, one, rest, c.in-Ok-eq0.field-0-test)) so_far
+
+pub returns-in-Ok-fill_behind-clause-answer : goal.returns-in-Ok-fill_behind-clause-answer
+returns-in-Ok-fill_behind-clause-answer g c = λ input told.
+    let so_far = c.loop-number.invariant.told input told in
+    let filled = c.in-Ok-fill_behind.ensures.answer _ so_far.left_is in
+    let one : length c.fill_behind-2.new.buf ≡ 1 = c.fill_behind-2.auto.buf ∙ length-take-le 1 c.loop-number.packet (omega (arith, c.loop-number.auto.packet, c.requires.size)) in
+    let last : c.loop-number.number ≡ 65536 = omega (arith, c.loop-number-test.false, c.loop-number.auto.number-end) in
+    let rest = length-drop (204 * c.loop-number.number) input in
+    let counted = filled.count in
+    refused_far input c.loop-number.number _ last (omega (arith, counted, one, rest, c.in-Ok-fill_behind.field-0-test)) so_far
+
+pub returns-in-Err-fill_behind-clause-answer : goal.returns-in-Err-fill_behind-clause-answer
+returns-in-Err-fill_behind-clause-answer g c = λ input told.
+    let so_far = c.loop-number.invariant.told input told in
+    let one : length c.fill_behind-2.new.buf ≡ 1 = c.fill_behind-2.auto.buf ∙ length-take-le 1 c.loop-number.packet (omega (arith, c.loop-number.auto.packet, c.requires.size)) in
+    let last : c.loop-number.number ≡ 65536 = omega (arith, c.loop-number-test.false, c.loop-number.auto.number-end) in
+    read_stopped input c.loop-number.number c.fill_behind-2.new.buf _ _ (omega (arith, one)) (omega (arith, one, last)) so_far (c.in-Err-fill_behind.ensures.answer _ so_far.left_is)

@@ -1,0 +1,39 @@
+//! The packets of a layer in a frame.
+
+ghost use Rattle.std.specs.Prelude.{◌≡◌, ℕ, ◌+◌, ◌*◌, ◌<◌, ◌≤◌, ◌^◌, None, [], length, take, slice_index, slice_index_or};
+ghost use Rattle.ts_packet.specs.Packets.{piece, sync_byte};
+ghost use Rattle.coder_core.specs.FrameChecks.{bad_sync_slot, layer_count};
+ghost use Rattle.coder_core.specs.InputFrames.{packet_in};
+
+use crate::check::{PACKET, names, slots_of};
+use isdbt_base::Layer;
+use ts_packet::Packet;
+
+/// The packet in a slot of a frame.
+fn packet_of(frame: &[u8], slot: u32) -> Packet
+    requires room { 204 * slot + 204 ≤ length frame.now }
+    requires sync { slice_index (piece 204 frame.now slot) 0 ≡ sync_byte }
+    ensures { result ≡ take 188 (piece 204 frame.now slot) }
+{
+    let start = PACKET * slot as usize;
+    match Packet::read(&frame[start..start + 188]) {
+        Ok(packet) => packet,
+        Err(_) => Packet::null(),
+    }
+}
+
+/// Writes the packets of a layer in a frame, in the order of their slots.
+pub fn gather(frame: &[u8], layer: Layer, packets: &mut [Packet])
+    requires size { length frame.now ≤ 2 ^ 32 }
+    requires sync { bad_sync_slot frame.now ≡ None }
+    requires count { layer_count frame.now layer ≡ length packets.old }
+    ensures { (j : ℕ) → j < length packets.new → slice_index_or packets.new j [] ≡ packet_in frame.now layer j }
+{
+    let mut next = 0;
+    for slot in 0..slots_of(frame) {
+        if names(frame, slot, layer) {
+            packets[next] = packet_of(frame, slot);
+            next += 1;
+        }
+    }
+}
