@@ -4,7 +4,9 @@ pub mod LayerTexts
 pub mod SettingWords
 pub mod Stuck
 pub mod Spelling
+pub mod CodeSpelling
 pub mod OnePlace
 pub mod Rows
 pub mod NamedInputs
 pub mod Outcomes
+pub mod CodeOutcomes

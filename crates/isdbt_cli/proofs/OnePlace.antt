@@ -1,11 +1,12 @@
 -- Words are of one command at most, and have one place of a fault, or are a command's.
 use Rattle.std.proofs.Common.{◌≡◌, ℕ, ◌+◌, ◌<◌, ◌≤◌, List, [], ◌∷◌, ◌++◌, length, take, drop, sym, ap, ◌∙◌, subst, arith, take-append-drop, append_assoc, inl, inr}
 use Rattle.std.specs.Prelude.{codes, is_some}
-use Rattle.std.proofs.lemmas.List.{take-take, take_all, append-nil}
+use Rattle.std.proofs.lemmas.List.{take-take, take_all, append-nil, append_cancel_left}
 use Rattle.std.proofs.lemmas.Bool.{cases_lt}
+use Rattle.std.specs.declared.option.Option.{Option}
 use Rattle.isdbt_base.specs.Plans.{Schedule}
-use Rattle.isdbt_cli.specs.CommandLines.{Word, transmission_words, Command, remux, Spells, CanGoOn, IsFaultAt}
-use Rattle.isdbt_cli.proofs.Spelling.{same_transmission, words_of-remux, names_words, same_names}
+use Rattle.isdbt_cli.specs.CommandLines.{Word, transmission_words, Command, remux, code, Spells, CanGoOn, IsFaultAt}
+use Rattle.isdbt_cli.proofs.Spelling.{same_transmission, words_of-remux, words_of-code, remux_or_code, same_head, names_words, same_names}
 
 -- ---- the place is one
 
@@ -41,6 +42,10 @@ no_place words c p s f =
 same_plan : (p q : Schedule) → p.switches ≡ [] → q.switches ≡ [] → p.first ≡ q.first → p ≡ q
 same_plan p q none none' first = ap (λ v. record { first = v; switches = p.switches }) first ∙ ap (λ v. record { first = q.first; switches = v }) (none ∙ sym none')
 
+-- no words are of both commands
+not_both : (words : List Word) (p q : Schedule) (a : Word) (b c : Option Word) (name : Word) → Spells words (remux p a b c) → Spells words (code q name) → ⊥
+not_both words p q a b c name s t = remux_or_code (same_head (sym (words_of-remux p a b c) ∙ sym s.spelled ∙ t.spelled ∙ words_of-code q name))
+
 pub one_command : (words : List Word) (c d : Command) → Spells words c → Spells words d → c ≡ d
 one_command words (remux p a b c) (remux q a' b' c') s t =
     let lines : codes "remux" ∷ (transmission_words p.first ++ names_words a b c) ≡ codes "remux" ∷ (transmission_words q.first ++ names_words a' b' c') = sym (words_of-remux p a b c) ∙ sym s.spelled ∙ t.spelled ∙ words_of-remux q a' b' c' in
@@ -50,3 +55,11 @@ one_command words (remux p a b c) (remux q a' b' c') s t =
     let used_c : is_some c ≡ is_some c' = s.command.c_used ∙ ap (λ x. is_some x.setting.c) sent.0 ∙ sym t.command.c_used in
     let names = same_names a a' b b' c c' used_b used_c sent.1 in
     ap (λ x. remux x a b c) plans ∙ ap (λ x. remux q x b c) names.0 ∙ ap (λ x. remux q a' x c) names.1 ∙ ap (λ x. remux q a' b' x) names.2
+one_command words (remux p a b c) (code q name) s t = absurd (not_both words p q a b c name s t)
+one_command words (code p name) (remux q a b c) s t = absurd (not_both words q p a b c name t s)
+one_command words (code p name) (code q name') s t =
+    let lines : codes "code" ∷ (transmission_words p.first ++ ((codes "IN=" ++ name) ∷ [])) ≡ codes "code" ∷ (transmission_words q.first ++ ((codes "IN=" ++ name') ∷ [])) = sym (words_of-code p name) ∙ sym s.spelled ∙ t.spelled ∙ words_of-code q name' in
+    let sent = same_transmission p.first q.first ((codes "IN=" ++ name) ∷ []) ((codes "IN=" ++ name') ∷ []) s.command.plan.accepted.first t.command.plan.accepted.first (ap (drop 1) lines) in
+    let plans = same_plan p q s.command.plan.no_switch t.command.plan.no_switch sent.0 in
+    let names : name ≡ name' = append_cancel_left (codes "IN=") name name' (same_head sent.1) in
+    ap (λ x. code x name) plans ∙ ap (λ x. code q x) names

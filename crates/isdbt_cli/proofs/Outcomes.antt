@@ -13,18 +13,20 @@ use Rattle.remux_core.specs.Parts.{IsGood}
 use Rattle.remux_core.specs.Refusals.{seat_of, refusal}
 use Rattle.remux_core.proofs.Refusing.{refusal-good}
 use Rattle.isdbt_cli.specs.declared.fault.RunFault.{RunFault}
-use Rattle.isdbt_cli.specs.declared.fault.RunFault.TheVariants.{Usage, BadSync, Truncated, OpenFault, ReadFault, WriteFault, TooLong, NoMemory}
+use Rattle.isdbt_cli.specs.declared.fault.RunFault.TheVariants.{Usage, BadSync, Truncated, HeadMisplaced, NoHead, WrongCount, OpenFault, ReadFault, WriteFault, TooLong, NoMemory}
 use Rattle.isdbt_cli.specs.declared.fault.Outcome.{Outcome}
 use Rattle.isdbt_cli.specs.declared.fault.Outcome.TheVariants.{Done, Fault}
-use Rattle.isdbt_cli.specs.CommandLines.{Word, Command, remux, Spells, IsFaultAt}
+use Rattle.isdbt_cli.specs.CommandLines.{Word, Command, remux, code, Spells, IsFaultAt}
 use Rattle.isdbt_cli.specs.Faults.{run_fault_of}
-use Rattle.isdbt_cli.specs.Run.{frame_limit, Names, names_of, AreSeated, SeatsAfter, SeatsOf, RunAnswer, AnswerOf, CommandCause, CauseOf, NothingRose, IsDoneOrNoMemory, IsFree}
+use Rattle.isdbt_cli.specs.FrameLimit.{frame_limit}
+use Rattle.isdbt_cli.specs.Run.{Names, names_of, AreSeated, SeatsAfter, SeatsOf, RunAnswer, AnswerOf, CommandCause, CauseOf, NothingRose, IsDoneOrNoMemory, IsFree}
 use Rattle.isdbt_cli.proofs.OnePlace.{no_place, one_place}
 
 -- ---- usage
 
 not_usage : (c : Command) (shelf shelf' : Cause → ℕ) (sink sink' word : ℕ) → CauseOf c shelf shelf' sink sink' (Fault (Usage word)) → ⊥
 not_usage (remux p a b c) shelf shelf' sink sink' word cause = cause
+not_usage (code p name) shelf shelf' sink sink' word cause = cause
 
 -- a command isn't refused for its words
 pub ok_usage : (words : List Word) (c : Command) (shelf shelf' : Cause → ℕ) (sink sink' : ℕ) (outcome : Outcome) (word : ℕ) → Spells words c → CauseOf c shelf shelf' sink sink' outcome → (outcome ≡ Fault (Usage word)) ↔ IsFaultAt words word
@@ -70,6 +72,9 @@ free p name input before after left shelf shelf' sink sink' (Done m) says cause 
 free p name input before after left shelf shelf' sink sink' (Fault (Usage word)) says cause none only_long = says
 free p name input before after left shelf shelf' sink sink' (Fault (BadSync seat packet)) says cause none only_long = absurd (let e = only_long (core.BadSync seat packet) says in cc)
 free p name input before after left shelf shelf' sink sink' (Fault (Truncated seat over)) says cause none only_long = absurd (let e = only_long (core.Truncated seat over) says in cc)
+free p name input before after left shelf shelf' sink sink' (Fault (HeadMisplaced frame slot)) says cause none only_long = says
+free p name input before after left shelf shelf' sink sink' (Fault NoHead) says cause none only_long = says
+free p name input before after left shelf shelf' sink sink' (Fault (WrongCount frame layer found)) says cause none only_long = says
 free p name input before after left shelf shelf' sink sink' (Fault (OpenFault seat)) says cause none only_long = not_opened name shelf shelf' sink sink' seat cause.0.layer cause.0.word none cause.0.name_is cause.0.seat_is cause.0.rose
 free p name input before after left shelf shelf' sink sink' (Fault (ReadFault seat)) says cause none only_long = not_read name shelf shelf' sink sink' seat cause.0.0 none cause.0.2 cause.1
 free p name input before after left shelf shelf' sink sink' (Fault WriteFault) says cause none only_long = none.wrote cause.1
@@ -90,6 +95,9 @@ complete p name input before after left (Done m) says never is_free = tt
 complete p name input before after left (Fault (Usage word)) says never is_free = is_free
 complete p name input before after left (Fault (BadSync seat packet)) says never is_free = is_free
 complete p name input before after left (Fault (Truncated seat over)) says never is_free = is_free
+complete p name input before after left (Fault (HeadMisplaced frame slot)) says never is_free = is_free
+complete p name input before after left (Fault NoHead) says never is_free = is_free
+complete p name input before after left (Fault (WrongCount frame layer found)) says never is_free = is_free
 complete p name input before after left (Fault (OpenFault seat)) says never is_free = is_free
 complete p name input before after left (Fault (ReadFault seat)) says never is_free = is_free
 complete p name input before after left (Fault WriteFault) says never is_free = is_free

@@ -7,7 +7,7 @@ use Rattle.isdbt_base.specs.declared.kinds.Guard.TheVariants.{G4, G8, G32}
 use Rattle.isdbt_base.specs.declared.kinds.Modulation.TheVariants.{Qpsk, Qam16, Qam64}
 use Rattle.isdbt_base.specs.declared.kinds.Rate.TheVariants.{R12, R23, R34, R56, R78}
 use Rattle.isdbt_base.specs.declared.kinds.DepthCode.TheVariants.{D0, D1, D2, D3}
-use Rattle.isdbt_cli.specs.CommandLines.{setting_word, remux, words_of}
+use Rattle.isdbt_cli.specs.CommandLines.{setting_word, remux, code, words_of}
 
 -- one layer
 one_layer : words_of (remux (record { first = record { mode = M1; guard = G4; setting = record { partial = false; a = record { segments = 13; modulation = Qpsk; rate = R12; depth = D0 }; b = None; c = None } }; switches = [] }) (codes "a.ts") None None)
@@ -26,6 +26,12 @@ three_layers : words_of (remux (record { first = record { mode = M1; guard = G32
     ≡ codes "remux" ∷ codes "1" ∷ codes "1/32" ∷ codes "A:1:qpsk:1/2:0,B:6:16qam:2/3:8,C:6:64qam:7/8:16" ∷ codes "A=a" ∷ codes "B=b" ∷ codes "C=c" ∷ []
 unfolding words_of digits
 three_layers = refl
+
+-- a coding
+coding : words_of (code (record { first = record { mode = M3; guard = G8; setting = record { partial = true; a = record { segments = 1; modulation = Qpsk; rate = R23; depth = D3 }; b = Some (record { segments = 12; modulation = Qam64; rate = R34; depth = D2 }); c = None } }; switches = [] }) (codes "x.bts"))
+    ≡ codes "code" ∷ codes "3" ∷ codes "1/8" ∷ codes "A:1:qpsk:2/3:4:partial,B:12:64qam:3/4:2" ∷ codes "IN=x.bts" ∷ []
+unfolding words_of digits
+coding = refl
 
 -- the same lengths of time interleaving in mode 2
 mode_2 : setting_word M2 (record { partial = false; a = record { segments = 6; modulation = Qam64; rate = R56; depth = D3 }; b = Some (record { segments = 7; modulation = Qpsk; rate = R12; depth = D1 }); c = None })

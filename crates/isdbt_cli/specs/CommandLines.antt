@@ -90,13 +90,15 @@ IsNameIfGiven (Some name) = IsName name
 
 -- ---- commands
 
--- remux: a plan, and the names of the inputs of layers A, B and C
+-- remux: a plan, and the names of the inputs of layers A, B and C; code: a plan, and the name of its input
 pub data Command : Type 0 where
   remux : Schedule → Word → Option Word → Option Word → Command
+  code : Schedule → Word → Command
 
 -- the words of a command
 unfoldable pub words_of : Command → List Word
 words_of (remux p a b c) = codes "remux" ∷ plan_words p ++ input_word (codes "A") a ∷ other_input_words (codes "B") b ++ other_input_words (codes "C") c
+words_of (code p name) = codes "code" ∷ plan_words p ++ input_word (codes "IN") name ∷ []
 
 -- the plan is accepted and has no switch
 pub record IsSteady (p : Schedule) : Type 0 where
@@ -112,8 +114,14 @@ pub record IsRemux (p : Schedule) (a : Word) (b c : Option Word) : Type 0 where
   pub b_used : is_some b ≡ is_some p.first.setting.b
   pub c_used : is_some c ≡ is_some p.first.setting.c
 
+-- the plan is one that can be spelled, and the input is named
+pub record IsCode (p : Schedule) (name : Word) : Type 0 where
+  pub plan : IsSteady p
+  pub input_name : IsName name
+
 abbrev pub IsCommand : Command → Type 0
 IsCommand (remux p a b c) = IsRemux p a b c
+IsCommand (code p name) = IsCode p name
 
 -- the words are those of an accepted command
 pub record Spells (words : List Word) (c : Command) : Type 0 where

@@ -4,6 +4,8 @@ use Rattle.isdbt_cli.specs.declared.fault.Outcome.{Outcome}
 use Rattle.isdbt_cli.specs.declared.fault.Outcome.TheVariants.{Done, Fault}
 use Rattle.isdbt_cli.specs.declared.fault.RunFault.{RunFault}
 use Rattle.isdbt_cli.specs.declared.fault.RunFault.TheVariants as run
+use Rattle.coder_core.specs.declared.fault.CodeFault.{CodeFault}
+use Rattle.coder_core.specs.declared.fault.CodeFault.TheVariants as code
 use Rattle.remux_core.specs.declared.fault.RemuxFault.{RemuxFault}
 use Rattle.remux_core.specs.declared.fault.RemuxFault.TheVariants.{BadSync, Truncated, ReadFault, WriteFault, TooLong, NoMemory}
 
@@ -11,6 +13,9 @@ abbrev pub number_of : RunFault → ℕ
 number_of (run.Usage word) = 1
 number_of (run.BadSync seat packet) = 2
 number_of (run.Truncated seat over) = 3
+number_of (run.HeadMisplaced frame slot) = 4
+number_of run.NoHead = 5
+number_of (run.WrongCount frame layer found) = 6
 number_of (run.OpenFault seat) = 10
 number_of (run.ReadFault seat) = 11
 number_of run.WriteFault = 12
@@ -28,3 +33,14 @@ run_fault_of (ReadFault seat) = run.ReadFault seat
 run_fault_of WriteFault = run.WriteFault
 run_fault_of TooLong = run.TooLong
 run_fault_of NoMemory = run.NoMemory
+
+abbrev pub run_fault_of_code : CodeFault → RunFault
+run_fault_of_code (code.BadSync seat packet) = run.BadSync seat packet
+run_fault_of_code (code.Truncated seat over) = run.Truncated seat over
+run_fault_of_code (code.HeadMisplaced frame slot) = run.HeadMisplaced frame slot
+run_fault_of_code code.NoHead = run.NoHead
+run_fault_of_code (code.WrongCount frame layer found) = run.WrongCount frame layer found
+run_fault_of_code (code.ReadFault seat) = run.ReadFault seat
+run_fault_of_code code.WriteFault = run.WriteFault
+run_fault_of_code code.TooLong = run.TooLong
+run_fault_of_code code.NoMemory = run.NoMemory

@@ -1,13 +1,15 @@
 -- The line that an outcome writes to standard error.
 use Rattle.std.specs.Prelude.{◌≡◌, ℕ, ◌≤◌, List, [], ◌∷◌, ◌++◌, length, take, codes, decimal}
 use Rattle.std.specs.declared.option.Option.{Option}
+use Rattle.isdbt_base.specs.declared.kinds.Layer.{Layer}
+use Rattle.isdbt_base.specs.declared.kinds.Layer.TheVariants as layers
 use Rattle.edge_io.specs.declared.shelf.Seat.{Seat}
 use Rattle.edge_io.specs.declared.shelf.Seat.TheVariants as seats
 use Rattle.edge_io.specs.Known.{append_known}
 use Rattle.edge_io.specs.Causes.{Rose}
 use Rattle.isdbt_cli.specs.declared.fault.Outcome.{Outcome}
 use Rattle.isdbt_cli.specs.declared.fault.Outcome.TheVariants.{Done, Fault}
-use Rattle.isdbt_cli.specs.declared.fault.RunFault.TheVariants.{Usage, BadSync, Truncated, OpenFault, ReadFault, WriteFault, TooLong, NoMemory}
+use Rattle.isdbt_cli.specs.declared.fault.RunFault.TheVariants.{Usage, BadSync, Truncated, HeadMisplaced, NoHead, WrongCount, OpenFault, ReadFault, WriteFault, TooLong, NoMemory}
 use Rattle.isdbt_cli.specs.CommandLines.{Word}
 
 abbrev pub seat_text : Seat → Word
@@ -16,12 +18,20 @@ seat_text seats.B = codes "B"
 seat_text seats.C = codes "C"
 seat_text seats.In = codes "IN"
 
+abbrev pub layer_letter : Layer → Word
+layer_letter layers.A = codes "A"
+layer_letter layers.B = codes "B"
+layer_letter layers.C = codes "C"
+
 -- a fault's line with its line feed, and nothing where the command is done
 abbrev pub line_of : Outcome → Word
 line_of (Done frames) = []
 line_of (Fault (Usage word)) = codes "isdbt: 1 usage: word " ++ decimal word ++ 10 ∷ []
 line_of (Fault (BadSync seat packet)) = codes "isdbt: 2 no sync byte: input " ++ seat_text seat ++ codes " packet " ++ decimal packet ++ 10 ∷ []
 line_of (Fault (Truncated seat over)) = codes "isdbt: 3 truncated: input " ++ seat_text seat ++ codes " over " ++ decimal over ++ 10 ∷ []
+line_of (Fault (HeadMisplaced frame slot)) = codes "isdbt: 4 frame head misplaced: frame " ++ decimal frame ++ codes " slot " ++ decimal slot ++ 10 ∷ []
+line_of (Fault NoHead) = codes "isdbt: 5 no frame head" ++ 10 ∷ []
+line_of (Fault (WrongCount frame layer found)) = codes "isdbt: 6 wrong count: frame " ++ decimal frame ++ codes " layer " ++ layer_letter layer ++ codes " found " ++ decimal found ++ 10 ∷ []
 line_of (Fault (OpenFault seat)) = codes "isdbt: 10 cannot open: " ++ seat_text seat ++ 10 ∷ []
 line_of (Fault (ReadFault seat)) = codes "isdbt: 11 read fault: " ++ seat_text seat ++ 10 ∷ []
 line_of (Fault WriteFault) = codes "isdbt: 12 write fault" ++ 10 ∷ []

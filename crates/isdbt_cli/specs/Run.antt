@@ -5,18 +5,17 @@ use Rattle.isdbt_base.specs.declared.kinds.Layer.{Layer}
 use Rattle.isdbt_base.specs.declared.kinds.Layer.TheVariants as layers
 use Rattle.isdbt_base.specs.Plans.{Schedule}
 use Rattle.edge_io.specs.declared.shelf.Seat.{Seat}
+use Rattle.edge_io.specs.declared.shelf.Seat.TheVariants as seats
 use Rattle.edge_io.specs.Causes.{Rose, Cause, Opening, Reading}
 use Rattle.remux_core.specs.declared.fault.RemuxFault.TheVariants as core
 use Rattle.remux_core.specs.Refusals.{seat_of}
 use Rattle.remux_core.specs.Answers.{IsUsed, place_of, Tells, Finished, Refused, ReadFailed, WriteFailed}
 use Rattle.isdbt_cli.specs.declared.fault.Outcome.{Outcome}
 use Rattle.isdbt_cli.specs.declared.fault.Outcome.TheVariants.{Done, Fault}
-use Rattle.isdbt_cli.specs.declared.fault.RunFault.TheVariants.{Usage, BadSync, Truncated, OpenFault, ReadFault, WriteFault, TooLong, NoMemory}
-use Rattle.isdbt_cli.specs.CommandLines.{Word, Command, remux, Spells, IsFaultAt}
-
--- the most frames of a command
-abbrev pub frame_limit : ℕ
-frame_limit = 16777216
+use Rattle.isdbt_cli.specs.declared.fault.RunFault.TheVariants.{Usage, BadSync, Truncated, HeadMisplaced, NoHead, WrongCount, OpenFault, ReadFault, WriteFault, TooLong, NoMemory}
+use Rattle.isdbt_cli.specs.FrameLimit.{frame_limit}
+use Rattle.isdbt_cli.specs.CodeRun.{CodeAnswer, CodeCause, CodeSeats}
+use Rattle.isdbt_cli.specs.CommandLines.{Word, Command, remux, code, Spells, IsFaultAt}
 
 -- ---- inputs
 
@@ -60,6 +59,7 @@ SeatsAfter name is_open outcome = AreSeated name is_open
 
 abbrev pub SeatsOf : Command → (Seat → Bool) → Outcome → Type 0
 SeatsOf (remux p a b c) is_open outcome = SeatsAfter (names_of a b c) is_open outcome
+SeatsOf (code p name) is_open outcome = CodeSeats is_open outcome
 
 -- ---- answers
 
@@ -69,6 +69,9 @@ RunAnswer p input before after left (Done m) = Finished p input frame_limit m be
 RunAnswer p input before after left (Fault (Usage word)) = ⊥
 RunAnswer p input before after left (Fault (BadSync seat packet)) = Refused p input frame_limit (core.BadSync seat packet) before after
 RunAnswer p input before after left (Fault (Truncated seat over)) = Refused p input frame_limit (core.Truncated seat over) before after
+RunAnswer p input before after left (Fault (HeadMisplaced frame slot)) = ⊥
+RunAnswer p input before after left (Fault NoHead) = ⊥
+RunAnswer p input before after left (Fault (WrongCount frame layer found)) = ⊥
 RunAnswer p input before after left (Fault (OpenFault seat)) = after ≡ before
 RunAnswer p input before after left (Fault (ReadFault seat)) = ReadFailed p input frame_limit before after left seat
 RunAnswer p input before after left (Fault WriteFault) = WriteFailed p input frame_limit before after left
@@ -78,6 +81,7 @@ RunAnswer p input before after left (Fault NoMemory) = (after ≡ before) × Tel
 -- what an answer to a command says, whatever its inputs hold
 abbrev pub AnswerOf : Command → (Word → Option (List ℕ)) → Option (List ℕ) → Option (List ℕ) → (Seat → Option (List ℕ)) → Outcome → Type 0
 AnswerOf (remux p a b c) holds before after left outcome = (input : Layer → List ℕ) → Hold holds (names_of a b c) input → RunAnswer p input before after left outcome
+AnswerOf (code p name) holds before after left outcome = (input : List ℕ) → holds name ≡ Some input → CodeAnswer p input before after (left seats.In) outcome
 
 -- ---- causes
 
@@ -92,6 +96,9 @@ pub record OpenFailed (name : Names) (shelf shelf' : Cause → ℕ) (seat : Seat
 -- when each answer to a command may come, by its plan and the names of its inputs
 abbrev pub CommandCause : Schedule → Names → (Cause → ℕ) → (Cause → ℕ) → ℕ → ℕ → Outcome → Type 0
 CommandCause p name shelf shelf' sink sink' (Fault (Usage word)) = ⊥
+CommandCause p name shelf shelf' sink sink' (Fault (HeadMisplaced frame slot)) = ⊥
+CommandCause p name shelf shelf' sink sink' (Fault NoHead) = ⊥
+CommandCause p name shelf shelf' sink sink' (Fault (WrongCount frame layer found)) = ⊥
 CommandCause p name shelf shelf' sink sink' (Fault (OpenFault seat)) = OpenFailed name shelf shelf' seat × (sink' ≡ sink)
 CommandCause p name shelf shelf' sink sink' (Fault (ReadFault seat)) = ((x : Layer) × IsUsed p x × (seat ≡ seat_of x)) × Rose (shelf (Reading seat)) (shelf' (Reading seat)) × (sink' ≡ sink)
 CommandCause p name shelf shelf' sink sink' (Fault WriteFault) = (shelf' ≡ shelf) × Rose sink sink'
@@ -99,6 +106,7 @@ CommandCause p name shelf shelf' sink sink' outcome = (shelf' ≡ shelf) × (sin
 
 abbrev pub CauseOf : Command → (Cause → ℕ) → (Cause → ℕ) → ℕ → ℕ → Outcome → Type 0
 CauseOf (remux p a b c) shelf shelf' sink sink' outcome = CommandCause p (names_of a b c) shelf shelf' sink sink' outcome
+CauseOf (code p name) shelf shelf' sink sink' outcome = CodeCause name shelf shelf' sink sink' outcome
 
 -- usage comes where the words have a fault, and each other answer where they are a command and it may come
 abbrev pub RunCause : List Word → (Cause → ℕ) → (Cause → ℕ) → ℕ → ℕ → Outcome → Type 0

@@ -12,4 +12,9 @@ pub enum Command<'a> {
         b: Option<&'a str>,
         c: Option<&'a str>,
     },
+    /// Codes the broadcast packets of the input of this name.
+    Code {
+        plan: Plan,
+        name: &'a str,
+    },
 }

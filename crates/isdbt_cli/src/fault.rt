@@ -2,23 +2,49 @@
 
 ghost use Rattle.std.specs.Prelude.{◌≡◌};
 
+use coder_core::CodeFault;
 use edge_io::Seat;
+use isdbt_base::Layer;
 use remux_core::RemuxFault;
 use thiserror::Error;
 
 /// Why a command ended early. The frames before the refused one are written whole, and nothing else; after a write fault a
-/// front part of the output is written.
+/// front part of the output is written. Frames are those of the output; those of a coding count from the first frame head.
 #[derive(Clone, Copy, Debug, PartialEq, Eq, Error)]
 pub enum RunFault {
     /// The words are not a command: no command begins with words 0 to `word`, or the words are too few.
     #[error("word {word} isn't accepted")]
-    Usage { word: u64 },
+    Usage {
+        word: u64,
+    },
     /// Packet `packet` of the seat's input, the first such, doesn't begin with the sync byte 47 hex.
     #[error("no sync byte in packet {packet}")]
-    BadSync { seat: Seat, packet: u64 },
-    /// The seat's input ends `over` bytes into a packet.
-    #[error("the input ends {over} bytes into a packet")]
-    Truncated { seat: Seat, over: u32 },
+    BadSync {
+        seat: Seat,
+        packet: u64,
+    },
+    /// The seat's input ends `over` bytes into a packet, or into a frame of broadcast packets.
+    #[error("the input ends {over} bytes into a packet or frame")]
+    Truncated {
+        seat: Seat,
+        over: u32,
+    },
+    /// The frame head flag is clear in slot 0 of a frame, or set in another.
+    #[error("frame head misplaced in frame {frame}, slot {slot}")]
+    HeadMisplaced {
+        frame: u32,
+        slot: u32,
+    },
+    /// No packet bears the frame head flag.
+    #[error("no frame head")]
+    NoHead,
+    /// A layer has another count of packets in a frame than the setting says.
+    #[error("{found} packets of a layer in frame {frame}")]
+    WrongCount {
+        frame: u32,
+        layer: Layer,
+        found: u32,
+    },
     /// The seat's input can't be opened.
     #[error("an input can't be opened")]
     OpenFault(Seat),
@@ -28,7 +54,7 @@ pub enum RunFault {
     /// A write failed.
     #[error("a write failed")]
     WriteFault,
-    /// There are more frames than 16,777,216.
+    /// There are more frames than 16,777,216, or no frame head comes in 65,536 packets and more follow.
     #[error("too many frames")]
     TooLong,
     /// Memory ran out.
@@ -55,6 +81,9 @@ impl Outcome {
             Outcome::Fault(RunFault::Usage { .. }) => 1,
             Outcome::Fault(RunFault::BadSync { .. }) => 2,
             Outcome::Fault(RunFault::Truncated { .. }) => 3,
+            Outcome::Fault(RunFault::HeadMisplaced { .. }) => 4,
+            Outcome::Fault(RunFault::NoHead) => 5,
+            Outcome::Fault(RunFault::WrongCount { .. }) => 6,
             Outcome::Fault(RunFault::OpenFault(_)) => 10,
             Outcome::Fault(RunFault::ReadFault(_)) => 11,
             Outcome::Fault(RunFault::WriteFault) => 12,
@@ -78,6 +107,35 @@ impl From<RemuxFault> for RunFault {
             RemuxFault::WriteFault => RunFault::WriteFault,
             RemuxFault::TooLong => RunFault::TooLong,
             RemuxFault::NoMemory => RunFault::NoMemory,
+        }
+    }
+}
+
+impl From<CodeFault> for RunFault {
+    ghost use Rattle.isdbt_cli.specs.Faults.{run_fault_of_code};
+    ghost use Rattle.std.specs.Prelude.{◌≡◌};
+
+    ghost from_gives = { λ fault e. e ≡ run_fault_of_code fault };
+
+    fn from(fault: CodeFault) -> RunFault {
+        match fault {
+            CodeFault::BadSync { seat, packet } => RunFault::BadSync { seat, packet },
+            CodeFault::Truncated { seat, over } => RunFault::Truncated { seat, over },
+            CodeFault::HeadMisplaced { frame, slot } => RunFault::HeadMisplaced { frame, slot },
+            CodeFault::NoHead => RunFault::NoHead,
+            CodeFault::WrongCount {
+                frame,
+                layer,
+                found,
+            } => RunFault::WrongCount {
+                frame,
+                layer,
+                found,
+            },
+            CodeFault::ReadFault(seat) => RunFault::ReadFault(seat),
+            CodeFault::WriteFault => RunFault::WriteFault,
+            CodeFault::TooLong => RunFault::TooLong,
+            CodeFault::NoMemory => RunFault::NoMemory,
         }
     }
 }

@@ -22,6 +22,7 @@ pub fn any_command(list: &[String]) -> Result<Command<'_>, u64>
     let mut words = Cursor::new(list);
     match words.word()? {
         "remux" => remux(&mut words),
+        "code" => code(&mut words),
         _ => Err(0),
     }
 }
@@ -38,6 +39,17 @@ fn remux<'a>(words: &mut Cursor<'a>) -> Result<Command<'a>, u64>
     let c = name_if(words, "C=", setting.layer(Layer::C).is_some())?;
     words.end()?;
     Ok(Command::Remux { plan, a, b, c })
+}
+
+/// The words behind `code`: a plan and the name of its input.
+fn code<'a>(words: &mut Cursor<'a>) -> Result<Command<'a>, u64>
+    ensures { MatchResult result (λ c. Spells (codes "code" ∷ words.old.words) (command_of c))
+        (λ place. IsStuck (Follows (codes "code")) words.old place) }
+{
+    let plan = plan(words)?;
+    let name = name(words, "IN=")?;
+    words.end()?;
+    Ok(Command::Code { plan, name })
 }
 
 /// A plan with no switch.

@@ -1,16 +1,17 @@
 //! The line that a fault writes to standard error. No memory is taken for it.
 
-ghost use Rattle.std.specs.Prelude.{◌≡◌, ◌+◌, ◌≤◌, ◌∷◌, [], ◌++◌, length, decimal};
+ghost use Rattle.std.specs.Prelude.{◌≡◌, ◌+◌, ◌≤◌, ◌∷◌, [], ◌++◌, length, codes, decimal};
 ghost use Rattle.arrayvec.specs.ArrayString.{array_string_len};
-ghost use Rattle.isdbt_cli.specs.Lines.{seat_text, line_of, IsTold};
+ghost use Rattle.isdbt_cli.specs.Lines.{seat_text, layer_letter, line_of, IsTold};
 
 use crate::fault::{Outcome, RunFault};
 use arrayvec::ArrayString;
 use edge_io::{Failed, Seat, Sink, write_whole};
+use isdbt_base::Layer;
 use itoa::Buffer;
 
 /// A line with its line feed.
-type Line = ArrayString<80>;
+type Line = ArrayString<112>;
 
 /// The letter of a seat.
 fn seat_text(seat: Seat) -> &'static str
@@ -22,6 +23,18 @@ fn seat_text(seat: Seat) -> &'static str
         Seat::B => "B",
         Seat::C => "C",
         Seat::In => "IN",
+    }
+}
+
+/// The letter of a layer.
+fn layer_letter(layer: Layer) -> &'static str
+    ensures value { result.now ≡ layer_letter layer }
+    ensures short { length result.now ≤ 1 }
+{
+    match layer {
+        Layer::A => "A",
+        Layer::B => "B",
+        Layer::C => "C",
     }
 }
 
@@ -75,6 +88,37 @@ fn packet_line(text: &str, seat: Seat, middle: &str, number: u64) -> Line
     line
 }
 
+/// A text, a number, a text and a number.
+fn slot_line(text: &str, frame: u32, middle: &str, slot: u32) -> Line
+    requires text { length text.now ≤ 40 }
+    requires middle { length middle.now ≤ 10 }
+    ensures { result.bytes ≡ text.now ++ decimal frame ++ middle.now ++ decimal slot ++ 10 ∷ [] }
+{
+    let mut line = Line::new();
+    line.push_str(text);
+    line.push_str(Buffer::new().format(frame));
+    line.push_str(middle);
+    line.push_str(Buffer::new().format(slot));
+    line.push('\n');
+    line
+}
+
+/// A text, a number, ` layer ` and its letter, ` found ` and a number.
+fn count_line(text: &str, frame: u32, layer: Layer, found: u32) -> Line
+    requires { length text.now ≤ 40 }
+    ensures { result.bytes ≡ text.now ++ decimal frame ++ codes " layer " ++ layer_letter layer ++ codes " found " ++ decimal found ++ 10 ∷ [] }
+{
+    let mut line = Line::new();
+    line.push_str(text);
+    line.push_str(Buffer::new().format(frame));
+    line.push_str(" layer ");
+    line.push_str(layer_letter(layer));
+    line.push_str(" found ");
+    line.push_str(Buffer::new().format(found));
+    line.push('\n');
+    line
+}
+
 /// The line of an outcome: a fault's, or nothing where the command is done.
 fn line_of(outcome: &Outcome) -> Line
     ensures { result.bytes ≡ line_of outcome.now }
@@ -96,6 +140,18 @@ fn line_of(outcome: &Outcome) -> Line
                 u64::from(over),
             )
         }
+        RunFault::HeadMisplaced { frame, slot } => slot_line(
+            "isdbt: 4 frame head misplaced: frame ",
+            frame,
+            " slot ",
+            slot,
+        ),
+        RunFault::NoHead => text_line("isdbt: 5 no frame head"),
+        RunFault::WrongCount {
+            frame,
+            layer,
+            found,
+        } => count_line("isdbt: 6 wrong count: frame ", frame, layer, found),
         RunFault::OpenFault(seat) => seat_line("isdbt: 10 cannot open: ", seat),
         RunFault::ReadFault(seat) => seat_line("isdbt: 11 read fault: ", seat),
         RunFault::WriteFault => text_line("isdbt: 12 write fault"),

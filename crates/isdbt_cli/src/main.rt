@@ -4,6 +4,8 @@
 #![tactic(auto)]
 
 mod arguments;
+#[cfg(test)]
+mod code_tests;
 mod command;
 mod cursor;
 mod fault;
@@ -13,6 +15,12 @@ mod inputs;
 #[cfg(test)]
 mod layers_tests;
 mod lines;
+#[cfg(test)]
+mod plain_cells;
+#[cfg(test)]
+mod plain_coding;
+#[cfg(test)]
+mod plain_tests;
 #[cfg(test)]
 mod quiet_tests;
 mod run;

@@ -8,7 +8,8 @@ ghost use Rattle.edge_io.specs.declared.shelf.Seat.{Seat as Place};
 ghost use Rattle.edge_io.specs.QuietShelf.{content_of, is_seat_open};
 ghost use Rattle.remux_core.specs.Refusals.{refusal};
 ghost use Rattle.isdbt_cli.specs.CommandLines.{Word, remux, Spells};
-ghost use Rattle.isdbt_cli.specs.Run.{frame_limit, names_of, Hold, IsDoneOrNoMemory};
+ghost use Rattle.isdbt_cli.specs.FrameLimit.{frame_limit};
+ghost use Rattle.isdbt_cli.specs.Run.{names_of, Hold, IsDoneOrNoMemory};
 
 use crate::fault::Outcome;
 use crate::run::run;

@@ -1,23 +1,28 @@
 //! The top call.
 
-ghost use Rattle.std.specs.Prelude.{◌≡◌, ℕ, List, ◌↔◌, false, None, option_map};
+ghost use Rattle.std.specs.Prelude.{◌≡◌, ℕ, List, ◌↔◌, false, None, Some, option_map};
 ghost use Rattle.std.specs.declared.option.Option.{Option as Maybe};
 ghost use Rattle.isdbt_base.specs.declared.kinds.Layer.{Layer as Which};
 ghost use Rattle.isdbt_base.specs.Plans.{Schedule};
 ghost use Rattle.edge_io.specs.declared.shelf.Seat.{Seat as Place};
 ghost use Rattle.remux_core.specs.Parts.{IsGood};
 ghost use Rattle.remux_core.specs.Refusals.{refusal};
-ghost use Rattle.isdbt_cli.specs.CommandLines.{Word, remux, IsRemux, IsCommand, Spells, IsFaultAt};
+ghost use Rattle.edge_io.specs.declared.shelf.Seat.TheVariants as seats;
+ghost use Rattle.coder_core.specs.CodeRefusals.{code_refusal};
+ghost use Rattle.isdbt_cli.specs.CodeRun.{CodeAnswer, CodeCause, CodeSeats, NothingRoseOf};
+ghost use Rattle.isdbt_cli.specs.CommandLines.{Word, remux, code, IsRemux, IsCode, IsCommand, Spells, IsFaultAt};
 ghost use Rattle.isdbt_cli.specs.Lines.{line_of, IsTold};
 ghost use Rattle.isdbt_cli.specs.Parsing.{command_of};
-ghost use Rattle.isdbt_cli.specs.Run.{frame_limit, names_of, Hold, SeatsAfter, SeatsOf, RunAnswer, AnswerOf, CommandCause, CauseOf, RunCause, NothingRose, IsDoneOrNoMemory, IsFree};
+ghost use Rattle.isdbt_cli.specs.FrameLimit.{frame_limit};
+ghost use Rattle.isdbt_cli.specs.Run.{names_of, Hold, SeatsAfter, SeatsOf, RunAnswer, AnswerOf, CommandCause, CauseOf, RunCause, NothingRose, IsDoneOrNoMemory, IsFree};
 
 use crate::command::Command;
 use crate::fault::{Outcome, RunFault};
 use crate::inputs::open_inputs;
 use crate::lines::tell;
 use crate::words::Words;
-use edge_io::{Shelf, Sink};
+use coder_core::code;
+use edge_io::{Failed, Seat, Shelf, Sink};
 use isdbt_base::Plan;
 use remux_core::remux;
 use std::alloc::Global;
@@ -53,6 +58,31 @@ fn run_remux<H: Shelf, K: Sink>(
     }
 }
 
+/// Codes the input of this name.
+fn run_code<H: Shelf, K: Sink>(
+    alloc: Global,
+    plan: &Plan,
+    name: &str,
+    shelf: &mut H,
+    out: &mut K,
+) -> Outcome
+    requires accepted { IsCode plan.now name.now }
+    requires closed { (seat : Place) → H.is_open shelf.old seat ≡ false }
+    ensures answer { (input : List ℕ) → H.holds shelf.old name.now ≡ Some input → CodeAnswer plan.now input (K.written out.old) (K.written out.new) (H.left shelf.new seats.In) result }
+    ensures cause { CodeCause name.now (H.faults shelf.old) (H.faults shelf.new) (K.faults out.old) (K.faults out.new) result }
+    ensures seats { CodeSeats (H.is_open shelf.new) result }
+    ensures room { K.room out.new ≡ K.room out.old }
+{
+    match shelf.open(Seat::In, name) {
+        Ok(()) => {}
+        Err(Failed) => return Outcome::Fault(RunFault::OpenFault(Seat::In)),
+    }
+    match code(alloc, plan, FRAMES, shelf, out) {
+        Ok(frames) => Outcome::Done(frames),
+        Err(fault) => Outcome::Fault(RunFault::from(fault)),
+    }
+}
+
 /// Does what a command says.
 fn run_command<H: Shelf, K: Sink>(
     alloc: Global,
@@ -69,6 +99,7 @@ fn run_command<H: Shelf, K: Sink>(
 {
     match command {
         Command::Remux { plan, a, b, c } => run_remux(alloc, &plan, a, b, c, shelf, out),
+        Command::Code { plan, name } => run_code(alloc, &plan, name, shelf, out),
     }
 }
 
@@ -113,6 +144,19 @@ pub fn run<H: Shelf, K: Sink, E: Sink>(
         → Hold (H.holds shelf.old) (names_of a b c) input
         → NothingRose (names_of a b c) (H.faults shelf.old) (H.faults shelf.new) (K.faults out.old) (K.faults out.new)
         → ((x : Which) → IsGood (input x)) → IsFree result }
+
+    // What the answer to a coding says of the input and of what was written: with Done, the cells of the plan and of the
+    // frames of the input.
+    ensures code_answer { (p : Schedule) (name : Word) (input : List ℕ) → Spells words.now (code p name) → H.holds shelf.old name ≡ Some input
+        → CodeAnswer p input (K.written out.old) (K.written out.new) (H.left shelf.new seats.In) result }
+
+    // Its input is opened, and no other seat.
+    ensures code_seats { (p : Schedule) (name : Word) → Spells words.now (code p name) → CodeSeats (H.is_open shelf.new) result }
+
+    // No frame refused and no fault of the outside: all frames, or no memory.
+    ensures code_complete { (p : Schedule) (name : Word) (input : List ℕ) → Spells words.now (code p name) → H.holds shelf.old name ≡ Some input
+        → NothingRoseOf name (H.faults shelf.old) (H.faults shelf.new) (K.faults out.old) (K.faults out.new)
+        → ((f : ℕ) → code_refusal p input frame_limit f ≡ None) → IsDoneOrNoMemory result }
 
     // The rooms of both sinks stay.
     ensures out_room { K.room out.new ≡ K.room out.old }

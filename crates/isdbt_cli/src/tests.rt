@@ -8,7 +8,9 @@ use crate::fault::{Outcome, RunFault};
 use crate::lines::tell;
 use crate::run::run;
 use crate::testing::{marked_packets, words_of};
+use coder_core::CodeFault;
 use edge_io::{FileShelf, MemoryShelf, MemorySink, Seat};
+use isdbt_base::Layer;
 use std::alloc::Global;
 use std::fs;
 use std::test::Fail;
@@ -81,12 +83,13 @@ fn run_over(alloc: Global, input: &[u8], out: &mut MemorySink) -> Result<Outcome
 #[test]
 fn usage_at_word_three(rt: HostRuntime) -> Result<(), Fail> {
     let alloc = rt.alloc();
-    let rows: [(&[&str], u64); 14] = [
+    let rows: [(&[&str], u64); 15] = [
         (&["remux", "1", "1/4", "A:1:qpsk:1/2:0", "A=a"], 3),
         (&[], 0),
         (&["remux"], 1),
         (&["REMUX", "1", "1/4", "A:13:qpsk:1/2:0", "A=a"], 0),
-        (&["code", "1", "1/4", "A:13:qpsk:1/2:0", "IN=a"], 0),
+        (&["cod", "1", "1/4", "A:13:qpsk:1/2:0", "IN=a"], 0),
+        (&["code", "1", "1/4", "A:13:qpsk:1/2:0", "A=a"], 4),
         (&["remux", "01", "1/4", "A:13:qpsk:1/2:0", "A=a"], 1),
         (&["remux", "1", "1/3", "A:13:qpsk:1/2:0", "A=a"], 2),
         (&["remux", "1", "1/4", "A:13:qpsk:1/2:0"], 4),
@@ -156,6 +159,49 @@ fn fault_lines(rt: HostRuntime) -> Result<(), Fail> {
     let mut full = MemorySink::new(alloc, 10)?;
     tell(&Outcome::Fault(RunFault::NoMemory), &mut full);
     assert!(rt; full.bytes() == b"isdbt: 14 ".as_slice());
+    Ok(())
+}
+
+/// The lines and statuses of faults of frames.
+#[test]
+fn frame_fault_lines(rt: HostRuntime) -> Result<(), Fail> {
+    let alloc = rt.alloc();
+    let (frame, slot, found) = (16_777_215, 4607, 4_294_967_295);
+    let count = |layer| CodeFault::WrongCount {
+        frame,
+        layer,
+        found,
+    };
+    let rows = [
+        (
+            CodeFault::HeadMisplaced { frame, slot },
+            "isdbt: 4 frame head misplaced: frame 16777215 slot 4607\n",
+            4,
+        ),
+        (CodeFault::NoHead, "isdbt: 5 no frame head\n", 5),
+        (
+            count(Layer::A),
+            "isdbt: 6 wrong count: frame 16777215 layer A found 4294967295\n",
+            6,
+        ),
+        (
+            count(Layer::B),
+            "isdbt: 6 wrong count: frame 16777215 layer B found 4294967295\n",
+            6,
+        ),
+        (
+            count(Layer::C),
+            "isdbt: 6 wrong count: frame 16777215 layer C found 4294967295\n",
+            6,
+        ),
+    ];
+    for (fault, line, status) in rows {
+        let mut err = MemorySink::new(alloc, 100)?;
+        let outcome = Outcome::Fault(RunFault::from(fault));
+        tell(&outcome, &mut err);
+        assert!(rt; err.bytes() == line.as_bytes());
+        assert_eq!(rt; outcome.status(), status);
+    }
     Ok(())
 }
 

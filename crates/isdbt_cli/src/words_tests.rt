@@ -3,6 +3,7 @@
 use crate::command::Command;
 use crate::testing::words_of;
 use isdbt_base::{DepthCode, Guard, Layer, LayerSetting, Mode, Modulation, Plan, Rate, Setting};
+use std::alloc::Global;
 use std::test::Fail;
 
 /// A setting of one layer.
@@ -13,6 +14,15 @@ const TWO: &str = "A:1:qpsk:1/2:0,B:12:qpsk:1/2:0";
 
 /// A setting of three layers.
 const THREE: &str = "A:1:qpsk:1/2:0,B:6:16qam:2/3:8,C:6:64qam:7/8:16";
+
+/// The place of the words' fault.
+fn place_of(alloc: Global, list: &[&str]) -> Result<u64, Fail> {
+    let words = words_of(alloc, list)?;
+    match words.command() {
+        Ok(_) => Err(Fail::from("the words are a command")),
+        Err(place) => Ok(place),
+    }
+}
 
 #[test]
 fn places_of_faults(rt: HostRuntime) -> Result<(), Fail> {
@@ -43,11 +53,33 @@ fn places_of_faults(rt: HostRuntime) -> Result<(), Fail> {
         (&["remux", "1", "1/4", THREE, "A=a", "B=b", "C=c", ""], 7),
     ];
     for (list, place) in rows {
-        let words = words_of(rt.alloc(), list)?;
-        match words.command() {
-            Ok(_) => return Err(Fail::from("the words are no command")),
-            Err(found) => assert_eq!(rt; found, place),
-        }
+        assert_eq!(rt; place_of(rt.alloc(), list)?, place);
+    }
+    Ok(())
+}
+
+#[test]
+fn places_of_faults_of_code(rt: HostRuntime) -> Result<(), Fail> {
+    let rows: [(&[&str], u64); 16] = [
+        (&["Code", "3", "1/8", WIDE, "IN=x"], 0),
+        (&["decode", "3", "1/8", WIDE, "IN=x"], 0),
+        (&["code"], 1),
+        (&["code", "4", "1/8", WIDE, "IN=x"], 1),
+        (&["code", "remux", "3", "1/8", WIDE, "IN=x"], 1),
+        (&["code", "3", "1/5", WIDE, "IN=x"], 2),
+        (&["code", "3", "1/8"], 3),
+        (&["code", "3", "1/8", "A:13:qpsk:1/2:8", "IN=x"], 3),
+        (&["code", "3", "1/8", "IN=x"], 3),
+        (&["code", "3", "1/8", WIDE], 4),
+        (&["code", "3", "1/8", WIDE, "A=x"], 4),
+        (&["code", "3", "1/8", WIDE, "in=x"], 4),
+        (&["code", "3", "1/8", WIDE, "IN="], 4),
+        (&["code", "3", "1/8", TWO, "IN=x", "B=b"], 5),
+        (&["code", "3", "1/8", WIDE, "IN=x", ""], 5),
+        (&["remux", "3", "1/8", WIDE, "IN=x"], 4),
+    ];
+    for (list, place) in rows {
+        assert_eq!(rt; place_of(rt.alloc(), list)?, place);
     }
     Ok(())
 }
@@ -84,11 +116,8 @@ fn settings_of_no_mode(rt: HostRuntime) -> Result<(), Fail> {
         ("1", ""),
     ];
     for (mode, setting) in rows {
-        let words = words_of(rt.alloc(), &["remux", mode, "1/4", setting, "A=a"])?;
-        match words.command() {
-            Ok(_) => return Err(Fail::from("the setting is none of the mode")),
-            Err(found) => assert_eq!(rt; found, 3),
-        }
+        let list = ["remux", mode, "1/4", setting, "A=a"];
+        assert_eq!(rt; place_of(rt.alloc(), &list)?, 3);
     }
     Ok(())
 }
@@ -111,7 +140,9 @@ fn one_layer(rt: HostRuntime) -> Result<(), Fail> {
         rt.alloc(),
         &["remux", "2", "1/16", "A:13:16qam:5/6:2", "A=-"],
     )?;
-    let Command::Remux { plan, a, b, c } = words.command()?;
+    let Command::Remux { plan, a, b, c } = words.command()? else {
+        return Err(Fail::from("the words are another command"));
+    };
     let wanted = Setting::new(
         false,
         layer(13, Modulation::Qam16, Rate::R56, DepthCode::D1)?,
@@ -129,7 +160,9 @@ fn one_layer(rt: HostRuntime) -> Result<(), Fail> {
 fn partial_and_wide_layer(rt: HostRuntime) -> Result<(), Fail> {
     let setting = "A:1:qpsk:2/3:4:partial,B:12:64qam:3/4:2";
     let words = words_of(rt.alloc(), &["remux", "3", "1/8", setting, "A=a", "B=b"])?;
-    let Command::Remux { plan, a, b, c } = words.command()?;
+    let Command::Remux { plan, a, b, c } = words.command()? else {
+        return Err(Fail::from("the words are another command"));
+    };
     let wanted = Setting::new(
         true,
         layer(1, Modulation::Qpsk, Rate::R23, DepthCode::D3)?,
@@ -149,7 +182,9 @@ fn three_layers(rt: HostRuntime) -> Result<(), Fail> {
         rt.alloc(),
         &["remux", "1", "1/32", THREE, "A=x", "B=B=", "C=,:"],
     )?;
-    let Command::Remux { plan, a, b, c } = words.command()?;
+    let Command::Remux { plan, a, b, c } = words.command()? else {
+        return Err(Fail::from("the words are another command"));
+    };
     let wanted = Setting::new(
         false,
         layer(1, Modulation::Qpsk, Rate::R12, DepthCode::D0)?,
@@ -160,5 +195,42 @@ fn three_layers(rt: HostRuntime) -> Result<(), Fail> {
     assert_eq!(rt; plan.guard(), Guard::G32);
     assert_eq!(rt; plan.at(0).setting, wanted);
     assert!(rt; a == "x" && b.unwrap_or("") == "B=" && c.unwrap_or("") == ",:");
+    Ok(())
+}
+
+#[test]
+fn coding(rt: HostRuntime) -> Result<(), Fail> {
+    let one = Setting::new(
+        false,
+        layer(13, Modulation::Qpsk, Rate::R12, DepthCode::D0)?,
+        None,
+        None,
+    )?;
+    let partial = Setting::new(
+        true,
+        layer(1, Modulation::Qpsk, Rate::R23, DepthCode::D3)?,
+        Some(layer(12, Modulation::Qam64, Rate::R34, DepthCode::D2)?),
+        None,
+    )?;
+    // The setting's word, the setting, the input's word and its name.
+    let rows = [
+        (WIDE, one, "IN=x", "x"),
+        (
+            "A:1:qpsk:2/3:4:partial,B:12:64qam:3/4:2",
+            partial,
+            "IN=IN=",
+            "IN=",
+        ),
+    ];
+    for (setting, wanted, input, input_name) in rows {
+        let words = words_of(rt.alloc(), &["code", "3", "1/8", setting, input])?;
+        let Command::Code { plan, name } = words.command()? else {
+            return Err(Fail::from("the words are another command"));
+        };
+        assert_eq!(rt; plan.mode(), Mode::M3);
+        assert_eq!(rt; plan.guard(), Guard::G8);
+        assert_eq!(rt; plan.at(0).setting, wanted);
+        assert!(rt; name == input_name);
+    }
     Ok(())
 }

@@ -1,7 +1,8 @@
-use Rattle.isdbt_cli.specs.CommandLines.{remux}
+use Rattle.isdbt_cli.specs.CommandLines.{remux, code}
 use Rattle.isdbt_cli.specs.Parsing.{command_of}
 use Rattle.isdbt_cli.proofs.OnePlace.{no_place, one_command}
 use Rattle.isdbt_cli.proofs.Outcomes.{ok_usage, fault_usage, same_answer, same_seats, ok_complete, ok_good}
+use Rattle.isdbt_cli.proofs.CodeOutcomes.{ok_complete as code_done}
 use Rattle.isdbt_cli.proofs.run.run.Goals as goal
 
 pub returns-in-Ok-clause-usage : goal.returns-in-Ok-clause-usage
@@ -39,3 +40,25 @@ returns-in-Err-clause-good_packets g c = λ p a b n input spelled hold none good
 
 pub returns-in-Err-clause-seats : goal.returns-in-Err-clause-seats
 returns-in-Err-clause-seats g c = λ p a b n spelled. absurd (no_place _ (remux p a b n) _ spelled c.in-Err.ensures)
+
+pub returns-in-Ok-clause-code_answer : goal.returns-in-Ok-clause-code_answer
+returns-in-Ok-clause-code_answer g c = λ p name input spelled hold.
+    same_answer (command_of c.in-Ok.command) (code p name) _ _ _ _ _ (one_command c.args.words.now (command_of c.in-Ok.command) (code p name) c.in-Ok.ensures spelled) c.run_command-outcome.ensures.answer input hold
+
+pub returns-in-Ok-clause-code_seats : goal.returns-in-Ok-clause-code_seats
+returns-in-Ok-clause-code_seats g c = λ p name spelled.
+    same_seats (command_of c.in-Ok.command) (code p name) _ _ (one_command c.args.words.now (command_of c.in-Ok.command) (code p name) c.in-Ok.ensures spelled) c.run_command-outcome.ensures.seats
+
+pub returns-in-Ok-clause-code_complete : goal.returns-in-Ok-clause-code_complete
+returns-in-Ok-clause-code_complete g c = λ p name input spelled hold none passed.
+    let same = one_command c.args.words.now (command_of c.in-Ok.command) (code p name) c.in-Ok.ensures spelled in
+    code_done (command_of c.in-Ok.command) p name input _ _ _ _ _ _ _ c.run_command-outcome.result same (same_answer (command_of c.in-Ok.command) (code p name) _ _ _ _ _ same c.run_command-outcome.ensures.answer input hold) c.run_command-outcome.ensures.cause none passed
+
+pub returns-in-Err-clause-code_answer : goal.returns-in-Err-clause-code_answer
+returns-in-Err-clause-code_answer g c = λ p name input spelled hold. absurd (no_place _ (code p name) _ spelled c.in-Err.ensures)
+
+pub returns-in-Err-clause-code_seats : goal.returns-in-Err-clause-code_seats
+returns-in-Err-clause-code_seats g c = λ p name spelled. absurd (no_place _ (code p name) _ spelled c.in-Err.ensures)
+
+pub returns-in-Err-clause-code_complete : goal.returns-in-Err-clause-code_complete
+returns-in-Err-clause-code_complete g c = λ p name input spelled hold none passed. absurd (no_place _ (code p name) _ spelled c.in-Err.ensures)
