@@ -1,0 +1,63 @@
+#!/bin/sh
+# Prints how fast the commands are: frames in a second, and the factor to real time; and the most memory that `code` holds.
+# Run by hand; no gate runs it. A frame lasts 204 symbols: 64.26 ms in mode 1 with guard 1/4, 231.336 ms in mode 3 with
+# guard 1/8.
+#
+#     bench/commands.sh [packets of input, 624000 if left out]
+set -eu
+top=$(cd "$(dirname "$0")/.." && pwd)
+packets=${1:-624000}
+folder=$(mktemp -d)
+trap 'rm -rf "$folder"' EXIT
+"$top/isdbt" remux 1 1/4 A:13:qpsk:1/2:0 A=- </dev/null
+
+# A packet with the sync byte, over and over.
+{ printf 'G\037\377\020'; head -c 184 /dev/zero | tr '\0' '\377'; } >"$folder/packet"
+i=0
+while [ $i -lt 1000 ]; do cat "$folder/packet"; i=$((i + 1)); done >"$folder/thousand"
+i=0
+while [ $i -lt $((packets / 1000)) ]; do cat "$folder/thousand"; i=$((i + 1)); done >"$folder/in.ts"
+
+# measure WHAT, bytes and milliseconds of a frame of output, then a command whose output is counted
+measure() {
+    what=$1 frame=$2 lasts=$3
+    shift 3
+    from=$(date +%s%N)
+    bytes=$("$@" | wc -c)
+    to=$(date +%s%N)
+    awk -v bytes="$bytes" -v ns=$((to - from)) -v what="$what" -v frame="$frame" -v lasts="$lasts" 'BEGIN {
+        s = ns / 1e9; frames = bytes / frame
+        printf "%s: %d frames in %.2f s, %.0f frames a second, %.0f MB/s, %.1f times real time\n", what, frames, s, frames / s, bytes / 1e6 / s, frames * lasts / 1000 / s
+    }'
+}
+
+one=A:13:qpsk:1/2:0
+full=A:13:64qam:7/8:0
+three=A:1:qpsk:2/3:4:partial,B:4:16qam:3/4:2,C:8:64qam:7/8:1
+
+measure "remux, mode 1, one layer" 261120 64.26 "$top/isdbt" remux 1 1/4 $one A="$folder/in.ts"
+measure "remux, mode 3, three layers" 940032 231.336 "$top/isdbt" remux 3 1/8 $three A=/dev/null B="$folder/in.ts" C="$folder/in.ts"
+
+head -c $((188 * 4000 * 40)) "$folder/in.ts" >"$folder/part.ts"
+"$top/isdbt" remux 1 1/4 $one A="$folder/part.ts" >"$folder/one.bts"
+"$top/isdbt" remux 3 1/8 $full A="$folder/part.ts" >"$folder/full.bts"
+"$top/isdbt" remux 3 1/8 $three A=/dev/null B="$folder/part.ts" C="$folder/part.ts" >"$folder/three.bts"
+measure "code, mode 1, QPSK 1/2" 509388 64.26 "$top/isdbt" code 1 1/4 $one IN="$folder/one.bts"
+measure "code, mode 3, 64QAM 7/8 (the highest rate)" 2036940 231.336 "$top/isdbt" code 3 1/8 $full IN="$folder/full.bts"
+measure "code, mode 3, three layers" 2036940 231.336 "$top/isdbt" code 3 1/8 $three IN="$folder/three.bts"
+
+cat >"$folder/pipe" <<END
+#!/bin/sh
+"$top/isdbt" remux 3 1/8 $full A="$folder/part.ts" | "$top/isdbt" code 3 1/8 $full IN=-
+END
+chmod +x "$folder/pipe"
+measure "remux | code, mode 3, 64QAM 7/8" 2036940 231.336 "$folder/pipe"
+
+# The most memory, in kilobytes, of a short and of a long run.
+for frames in 4 30; do
+    head -c $((940032 * frames)) "$folder/full.bts" >"$folder/some.bts"
+    "$top/isdbt" code 3 1/8 $full IN="$folder/some.bts" >"$folder/cells" &
+    most=0
+    while now=$(awk '/VmHWM/ { print $2 }' "/proc/$!/status" 2>/dev/null) && [ -n "$now" ]; do most=$now; done
+    echo "code, mode 3, 64QAM 7/8, $frames frames: $most kB of memory at most"
+done
