@@ -1,0 +1,114 @@
+-- Selecting by a comparison, and the least lane by halves.
+use Rattle.std.proofs.Common.{◌≡◌, ℕ, ◌+◌, ◌-◌, ◌++◌, get_or, ◌<◌, ◌≤◌, ◌^◌, inl, inr, Bool, true, false, cond, List, length, map, refl, ◌∙◌, ap, sym, arith, w8, length-append, Contains, All}
+use Rattle.std.specs.Prelude.{nat_lt}
+use Rattle.std.proofs.lemmas.Bool.{cases_lt, ltb-true, ltb-false}
+use Rattle.std.proofs.lemmas.List.{get_or_append_left, get_or-append-add, get_or_default}
+use Rattle.std.proofs.lemmas.Simd.{tops_compared, get_or-sel_l, get_or-zip2, length-zip2, length-sel_l, pick_l-range_with_len, get_or-chunk, length-chunk, pick_l_whole}
+use Rattle.std.specs.List.{range_with_len}
+use lib.Lanes.{pick_l, zip2, top, sel_l}
+
+-- the lanes of as where xs is below ys, else those of bs
+abbrev pub chosen : List ℕ → List ℕ → List ℕ → List ℕ → List ℕ
+chosen xs ys as' bs = sel_l (map (top 7) (zip2 (λ a b. cond (nat_lt a b) (2 ^ 8 - 1) 0) xs ys)) as' bs
+
+pub chosen_at : (xs ys as' bs : List ℕ) (m i : ℕ) → length xs ≡ m → length ys ≡ m → length as' ≡ m → length bs ≡ m → i < m →
+    get_or (chosen xs ys as' bs) i 0 ≡ cond (nat_lt (get_or xs i 0) (get_or ys i 0)) (get_or as' i 0) (get_or bs i 0)
+chosen_at xs ys as' bs m i ex ey ea eb h =
+    let long = length-zip2 nat_lt xs ys (ex ∙ sym ey) in
+    ap (λ ms. get_or (sel_l ms as' bs) i 0) (tops_compared w8 nat_lt xs ys)
+    ∙ get_or-sel_l (zip2 nat_lt xs ys) as' bs i 0 (omega arith) (omega arith) (omega arith)
+    ∙ ap (λ b. cond b (get_or as' i 0) (get_or bs i 0)) (get_or-zip2 nat_lt xs ys i 0 0 false (omega arith) (omega arith))
+
+pub length-chosen : (xs ys as' bs : List ℕ) (m : ℕ) → length xs ≡ m → length ys ≡ m → length as' ≡ m → length bs ≡ m → length (chosen xs ys as' bs) ≡ m
+length-chosen xs ys as' bs m ex ey ea eb =
+    let long = length-zip2 nat_lt xs ys (ex ∙ sym ey) in
+    ap (λ ms. length (sel_l ms as' bs)) (tops_compared w8 nat_lt xs ys)
+    ∙ length-sel_l (zip2 nat_lt xs ys) as' bs (omega arith) (omega arith)
+    ∙ omega arith
+
+pub part_at : (v : List ℕ) (a m i : ℕ) → a + m ≤ length v → i < m → get_or (pick_l 0 (v ++ v) (range_with_len a m)) i 0 ≡ get_or v (a + i) 0
+part_at v a m i room h =
+    ap (λ l. get_or l i 0) (pick_l-range_with_len 0 (v ++ v) a m (omega (arith, length-append v v)))
+    ∙ get_or-chunk a m (v ++ v) i 0 h
+    ∙ get_or_append_left v v 0 (a + i) (omega arith)
+
+pub length-part : (v : List ℕ) (a m : ℕ) → a + m ≤ length v → length (pick_l 0 (v ++ v) (range_with_len a m)) ≡ m
+length-part v a m room =
+    ap length (pick_l-range_with_len 0 (v ++ v) a m (omega (arith, length-append v v)))
+    ∙ length-chunk a m (v ++ v) (omega (arith, length-append v v))
+
+module _ (v : List ℕ) (m x : ℕ) (long : length v ≡ m + m) where
+  abbrev pub lo : List ℕ
+  lo = pick_l 0 (v ++ v) (range_with_len 0 m)
+
+  abbrev pub hi : List ℕ
+  hi = pick_l 0 (v ++ v) (range_with_len m m)
+
+  abbrev pub least : List ℕ
+  least = chosen lo hi lo hi
+
+  lo_at : (i : ℕ) → i < m → get_or lo i 0 ≡ get_or v i 0
+  lo_at i h = part_at v 0 m i (omega arith) h ∙ ap (λ k. get_or v k 0) (omega arith)
+
+  hi_at : (i : ℕ) → i < m → get_or hi i 0 ≡ get_or v (m + i) 0
+  hi_at i h = part_at v m m i (omega arith) h
+
+  long_lo : length lo ≡ m
+  long_lo = length-part v 0 m (omega arith)
+
+  long_hi : length hi ≡ m
+  long_hi = length-part v m m (omega arith)
+
+  long_least : length least ≡ m
+  long_least = length-chosen lo hi lo hi m long_lo long_hi long_lo long_hi
+
+  cond_least : (a b : ℕ) → (cond (nat_lt a b) a b ≤ a) × (cond (nat_lt a b) a b ≤ b)
+  cond_least a b = by_case a b (nat_lt a b) refl
+    where
+      by_case : (a b : ℕ) (t : Bool) → nat_lt a b ≡ t → (cond t a b ≤ a) × (cond t a b ≤ b)
+      by_case a b true e = let lt : a < b = ltb-true a b e in (omega arith, omega arith)
+      by_case a b false e = let le : b ≤ a = ltb-false a b e in (omega arith, omega arith)
+
+  least_at : (i : ℕ) → i < m → get_or least i 0 ≡ cond (nat_lt (get_or v i 0) (get_or v (m + i) 0)) (get_or v i 0) (get_or v (m + i) 0)
+  least_at i h =
+      chosen_at lo hi lo hi m i long_lo long_hi long_lo long_hi h
+      ∙ rw (lo_at i h, hi_at i h)
+
+  pub least_below : All (λ y. x ≤ y) least → All (λ y. x ≤ y) v
+  least_below h k d lt = elim (cases_lt k m) [
+    | inl l ↦ omega (arith, h k 0 (omega (arith, long_least)), least_at k l, (cond_least (get_or v k 0) (get_or v (m + k) 0)).0, get_or_default v k d 0 lt)
+    | inr l ↦
+        let j : ℕ = k - m in
+        let previous : m + (k - m) ≡ k = omega arith in
+        omega (arith, h (k - m) 0 (omega (arith, long_least)), least_at (k - m) (omega arith), (cond_least (get_or v (k - m) 0) (get_or v (m + (k - m)) 0)).1, ap (λ n. get_or v n 0) previous, get_or_default v k d 0 lt)
+  ]
+
+  pick_case : (k : ℕ) (t : Bool) → k < m → cond t (get_or v k 0) (get_or v (m + k) 0) ≡ x → Contains v x
+  pick_case k true l e = (k, omega arith, get_or_default v k x 0 (omega arith) ∙ e)
+  pick_case k false l e = (m + k, omega arith, get_or_default v (m + k) x 0 (omega arith) ∙ e)
+
+  pub least_lane : Contains least x → Contains v x
+  least_lane h =
+      let l : h.0 < m = omega (arith, h.1, long_least) in
+      pick_case h.0 _ l (sym (least_at h.0 l) ∙ get_or_default least h.0 0 x h.1 ∙ h.2)
+
+pub cond_swap : (a b : ℕ) → cond (nat_lt a b) a b ≡ cond (nat_lt b a) b a
+cond_swap a b = by_case a b (nat_lt a b) (nat_lt b a) refl refl
+  where
+    by_case : (a b : ℕ) (s t : Bool) → nat_lt a b ≡ s → nat_lt b a ≡ t → cond s a b ≡ cond t b a
+    by_case a b true true e f = let l : a < b = ltb-true a b e in let k : b < a = ltb-true b a f in omega arith
+    by_case a b true false e f = refl
+    by_case a b false true e f = refl
+    by_case a b false false e f = let l : b ≤ a = ltb-false a b e in let k : a ≤ b = ltb-false b a f in omega arith
+
+whole_is : (xs ys : List ℕ) → length xs ≡ 32 → length ys ≡ 32 → pick_l 0 (xs ++ ys) (range_with_len 0 64) ≡ xs ++ ys
+whole_is xs ys ex ey = pick_l_whole 0 (xs ++ ys) 64 (omega (arith, length-append xs ys))
+
+pub joined_low : (xs ys : List ℕ) (i : ℕ) → length xs ≡ 32 → length ys ≡ 32 → i < 32 → get_or (pick_l 0 (xs ++ ys) (range_with_len 0 64)) i 0 ≡ get_or xs i 0
+joined_low xs ys i ex ey h = ap (λ l. get_or l i 0) (whole_is xs ys ex ey) ∙ get_or_append_left xs ys 0 i (omega arith)
+
+pub joined_high : (xs ys : List ℕ) (i : ℕ) → length xs ≡ 32 → length ys ≡ 32 → i < 32 → get_or (pick_l 0 (xs ++ ys) (range_with_len 0 64)) (32 + i) 0 ≡ get_or ys i 0
+joined_high xs ys i ex ey h =
+    ap (λ l. get_or l (32 + i) 0) (whole_is xs ys ex ey)
+    ∙ ap (λ n. get_or (xs ++ ys) (n + i) 0) (sym ex)
+    ∙ get_or-append-add xs ys i 0

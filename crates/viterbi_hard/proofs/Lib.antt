@@ -1,0 +1,15 @@
+pub mod TrellisLaws
+pub mod ZeroStart
+pub mod LaneLaws
+pub mod HalfLaws
+pub mod StateLaws
+pub mod PackLaws
+pub mod HoldsLaws
+pub mod MoveLaws
+pub mod StepLaws
+pub mod StartLaws
+pub mod UniqueLaws
+pub mod LeastLaws
+pub mod DecidedLaws
+pub mod FeedLaws
+pub mod Rows

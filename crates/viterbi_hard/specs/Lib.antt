@@ -1,0 +1,5 @@
+pub mod LeastPath
+pub mod Trellis
+pub mod Steps
+pub mod States
+pub mod StandsFor

@@ -1,0 +1,53 @@
+-- What was read of each step of the mother code: the steps' places among the read bits.
+use Rattle.std.specs.Prelude.{ℕ, zero, suc, ◌+◌, ◌%◌, ◌==◌, ◌||◌, ◌&&◌, not, Bool, true, false, cond, List, [], ◌∷◌}
+use Rattle.isdbt_base.specs.declared.kinds.Rate.{Rate}
+use Rattle.isdbt_base.specs.declared.kinds.Rate.TheVariants.{R12, R23, R34, R56, R78}
+use Rattle.isdbt_base.specs.Numbers.{rate_steps}
+use Rattle.conv_punct.specs.CodedBits.{coded_len}
+use Rattle.viterbi_hard.specs.declared.received.Decision.{Decision}
+use Rattle.viterbi_hard.specs.declared.received.Decision.TheVariants.{Punctured, Zero, One}
+use Rattle.viterbi_hard.specs.declared.received.Received.{Received}
+
+-- whether X and Y of step j of a puncturing pattern are sent
+abbrev pub sends_x : Rate → ℕ → Bool
+sends_x R12 j = true
+sends_x R23 j = j == 0
+sends_x R34 j = not (j == 1)
+sends_x R56 j = (j == 0) || (j == 2) || (j == 4)
+sends_x R78 j = (j == 0) || (j == 4) || (j == 6)
+
+abbrev pub sends_y : Rate → ℕ → Bool
+sends_y R12 j = true
+sends_y R23 j = true
+sends_y R34 j = not (j == 2)
+sends_y R56 j = (j == 0) || (j == 1) || (j == 3)
+sends_y R78 j = not (j == 4) && not (j == 6)
+
+-- the bits that are sent of step j of a pattern, and of the steps before it
+abbrev pub used_at : Rate → ℕ → ℕ
+used_at rate j = cond (sends_x rate j) 1 0 + cond (sends_y rate j) 1 0
+
+abbrev pub sent_before : Rate → ℕ → ℕ
+sent_before rate zero = 0
+sent_before rate (suc j) = sent_before rate j + used_at rate j
+
+-- a read bit as a decision
+abbrev pub decision_of : Bool → Decision
+decision_of false = Zero
+decision_of true = One
+
+-- what was read of step j of a pattern, whose bits begin at a place
+abbrev pub received_from : Rate → (ℕ → Bool) → ℕ → ℕ → Received
+received_from rate read place j = record {
+  x = cond (sends_x rate j) (decision_of (read place)) Punctured;
+  y = cond (sends_y rate j) (decision_of (read (place + cond (sends_x rate j) 1 0))) Punctured;
+}
+
+-- what was read of step i
+abbrev pub received_at : Rate → (ℕ → Bool) → ℕ → Received
+received_at rate read i = received_from rate read (coded_len rate i) (i % rate_steps rate)
+
+-- what was read of the first n steps, the newest first
+abbrev pub received_steps : Rate → (ℕ → Bool) → ℕ → List Received
+received_steps rate read zero = []
+received_steps rate read (suc n) = received_at rate read n ∷ received_steps rate read n

@@ -1,0 +1,29 @@
+//! The inner decoder: the input bits of the inner code from bits that were read, of which some may be wrong (ARIB STD-B31
+//! 3.8; the coded bits of `conv_punct`).
+//!
+//! The cost of a list of input bits is the count of places where its coded bits differ from the bits that were read. The
+//! least path over n steps is the list of n bits of least cost; among lists of equal cost the one that is first when read
+//! from the newest bit back, 0 before 1. Decided bit b is bit b of the least path over the first b + 128 steps: it waits for
+//! 127 further steps, the traceback window. So after n steps in all n - 127 bits are decided, or none.
+//!
+//! The least path is found by the algorithm of Viterbi. The six newest bits of a path are its trellis state, one of 64. Of
+//! all paths that end in a state the decoder keeps the least, the state's survivor, and its cost, the state's path metric;
+//! a step goes on from the survivors of the two states before (add, compare, select). Metrics and the newest bits of the
+//! survivors stand in 64 lanes of a byte each, so that a step is some dozens of vector instructions.
+//!
+//! No call takes memory.
+#![tactic(auto)]
+
+mod decoder;
+mod lanes;
+mod laws;
+mod received;
+mod survivors;
+
+pub use decoder::Decoder;
+pub use laws::{clean_law, least_path_law, window_law};
+
+#[cfg(test)]
+mod search;
+#[cfg(test)]
+mod tests;
