@@ -1,13 +1,16 @@
 pub mod AdjustedFrames
 pub mod CellNumbers
+pub mod CleanWords
 pub mod HeldItems
 pub mod LayerCellLaws
 pub mod LayerFrames
 pub mod LayerParts
+pub mod NearAnswers
 pub mod OpenedLayer
 pub mod ReadBack
 pub mod Sizes
 pub mod StableBits
 pub mod StableCells
+pub mod StableWords
 pub mod Streams
 pub mod UnitLaws

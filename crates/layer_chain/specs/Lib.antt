@@ -4,5 +4,6 @@ pub mod CodedLayer
 pub mod Held
 pub mod LayerCells
 pub mod LayerCoder
+pub mod OuterWords
 pub mod SentBytes
 pub mod Streams

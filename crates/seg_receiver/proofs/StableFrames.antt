@@ -1,0 +1,86 @@
+-- What is given out in a frame depends on the words and cells of the frames up to it, whatever they say.
+use Rattle.std.proofs.Common.{◌≡◌, ℕ, zero, suc, ◌+◌, ◌-◌, ◌/◌, ◌%◌, ◌≤◌, ◌<◌, Bool, List, refl, arith, ap, sym, ◌∙◌, subst, inl, inr, Some, Ok}
+use Rattle.std.specs.Prelude.{if◌then◌else◌, ◌==◌}
+use Rattle.std.proofs.lemmas.Nat.{div_below, mod_below}
+use Rattle.std.proofs.lemmas.Bool.{cond_both}
+use Rattle.isdbt_base.proofs.OptionLaws.{option_cases, result_cases}
+use Rattle.isdbt_base.specs.declared.kinds.Mode.{Mode}
+use Rattle.isdbt_base.specs.declared.kinds.Guard.{Guard}
+use Rattle.isdbt_base.specs.declared.kinds.Layer.{Layer}
+use Rattle.isdbt_base.specs.LayerParameters.{LayerParameters}
+use Rattle.isdbt_base.specs.Parameters.{Parameters, IsAccepted, layer_of, number_of}
+use Rattle.isdbt_base.specs.Numbers.{carriers, packets_per_frame, first_segment}
+use Rattle.frame_order.specs.OrderedFrame.{ordered_frame}
+use Rattle.frame_order.proofs.FrameBytes.{ordered_frame-same}
+use Rattle.cell_map.specs.Levels.{bits_of}
+use Rattle.tmcc_word.specs.Fields.{TmccFields}
+use Rattle.tmcc_word.specs.Reading.{read}
+use Rattle.tmcc_word.proofs.Accepted.{read-fits}
+use Rattle.layer_chain.specs.OuterWords.{given_out}
+use Rattle.layer_chain.proofs.StableWords.{given_out-same}
+use Rattle.coder_core.proofs.SegmentCells.{carriers-positive}
+use Rattle.seg_receiver.specs.CellStream.{FrameCells, CellsAgreeUpTo}
+use Rattle.seg_receiver.specs.Received.{countdown_read, epoch_start, place_bits, setting_packet, word_packet, received_packets, tag_read, word_frame, received_frame}
+use Rattle.seg_receiver.proofs.CleanDelivered.{has_segments, segment-lt}
+
+-- words that are alike before a frame give the same epoch
+epoch_start-same : (words other : ℕ → List Bool) (f : ℕ) → ((g : ℕ) → g < f → words g ≡ other g) → epoch_start words f ≡ epoch_start other f
+unfolding epoch_start
+epoch_start-same words other zero same = refl
+epoch_start-same words other (suc f) same =
+    ap (λ w. if countdown_read (read w) == 0 then suc f else epoch_start words f) (same f (omega arith))
+    ∙ ap (λ start. if countdown_read (read (other f)) == 0 then suc f else start) (epoch_start-same words other f (λ g h. same g (omega arith)))
+
+-- an epoch begins at its frame or before
+read_start-le : (words : ℕ → List Bool) (f : ℕ) → epoch_start words f ≤ f
+unfolding epoch_start
+read_start-le words zero = omega arith
+read_start-le words (suc f) =
+    cond_both (countdown_read (read (words f)) == 0) (suc f) (epoch_start words f) (λ n. n ≤ suc f) (λ e. omega arith) (λ e. let k = read_start-le words f in omega (arith, k))
+
+-- cells that are alike in the frames up to f give the same packets of a layer in frame f
+given_out-alike : (mode : Mode) (s : Parameters) (x : Layer) (l : LayerParameters) (cell other : FrameCells) (start f j : ℕ) → IsAccepted s → layer_of s x ≡ Some l → start ≤ f → CellsAgreeUpTo mode f cell other → j < packets_per_frame mode l →
+    given_out mode l (place_bits mode l cell start (first_segment s x)) (f - start) j ≡ given_out mode l (place_bits mode l other start (first_segment s x)) (f - start) j
+given_out-alike mode s x l cell other start f j accepted used before same k =
+    let first = first_segment s x in
+    given_out-same mode l (place_bits mode l cell start first) (place_bits mode l other start first) (f - start) j (has_segments s x l accepted used) k (λ y w ly lw.
+    let row : w / carriers mode < l.segments = div_below w (carriers mode) l.segments (carriers-positive mode) lw in
+    ap (bits_of l.modulation) (same (start + y / 204) (y % 204) (first + w / carriers mode) (w % carriers mode) (omega (arith, before)) (omega arith) (segment-lt s x l (w / carriers mode) accepted used row) (mod_below w (carriers mode) (carriers-positive mode))))
+
+received_packets-same : (mode : Mode) (words other : ℕ → List Bool) (cell cells : FrameCells) (f j : ℕ) (x : Layer) (i : TmccFields × Bool) → read (words f) ≡ Ok i → read (other f) ≡ Ok i → epoch_start words f ≡ epoch_start other f →
+    CellsAgreeUpTo mode f cell cells → j < number_of (packets_per_frame mode) (layer_of i.0.now x) → received_packets mode words cell f x j ≡ received_packets mode other cells f x j
+unfolding received_packets
+received_packets-same mode words other cell cells f j x i said too start same k =
+    let s = i.0.now in
+    let begun = epoch_start other f in
+    let fits = read-fits (words f) i said in
+    ap (word_packet mode cell (epoch_start words f) f x j) said
+    ∙ ap (λ u. setting_packet mode cell u f s x j (layer_of s x)) start
+    ∙ elim (option_cases (layer_of i.0.now x)) [
+      | inl none ↦ ap (setting_packet mode cell begun f s x j) none ∙ sym (ap (setting_packet mode cells begun f s x j) none)
+      | inr used ↦ (let within : j < packets_per_frame mode used.0 = subst (λ o. j < number_of (packets_per_frame mode) o) used.1 k in
+          ap (setting_packet mode cell begun f s x j) used.1
+          ∙ given_out-alike mode s x used.0 cell cells begun f j fits.now used.1 (read_start-le other f) same within
+          ∙ sym (ap (setting_packet mode cells begun f s x j) used.1))
+    ]
+    ∙ sym (ap (word_packet mode cells begun f x j) too)
+
+-- words and cells that are alike in the frames up to f give the same output frame f
+pub received_frame-same : (mode : Mode) (guard : Guard) (words other : ℕ → List Bool) (cell cells : FrameCells) (f : ℕ) → ((g : ℕ) → g ≤ f → words g ≡ other g) → CellsAgreeUpTo mode f cell cells →
+    received_frame mode guard words cell f ≡ received_frame mode guard other cells f
+unfolding received_frame
+received_frame-same mode guard words other cell cells f alike same =
+    let start = epoch_start-same words other f (λ g h. alike g (omega arith)) in
+    let begun = epoch_start other f in
+    let got = received_packets mode words cell f in
+    let due = received_packets mode other cells f in
+    elim (result_cases (read (words f))) [
+      | inr refused ↦ (let too = ap read (sym (alike f (omega arith))) ∙ refused.1 in
+          ap (word_frame mode guard (epoch_start words f) f got) refused.1 ∙ sym (ap (word_frame mode guard begun f due) too))
+      | inl said ↦ (let i = said.0 in
+          let too = ap read (sym (alike f (omega arith))) ∙ said.1 in
+          ap (word_frame mode guard (epoch_start words f) f got) said.1
+          ∙ ap (λ u. ordered_frame mode guard i.0.now (tag_read i u f) got) start
+          ∙ ordered_frame-same mode guard i.0.now (tag_read i begun f) got due (λ m k. received_packets-same mode words other cell cells f m.index m.layer i said.1 too start same k)
+          ∙ sym (ap (word_frame mode guard begun f due) too))
+    ]

@@ -1,0 +1,43 @@
+-- A stream of cells as a receiver sees it: the TMCC words of its frames, and the cells by frame, symbol, segment and carrier. The layout is that of the cells that are sent.
+use Rattle.std.specs.Prelude.{◌≡◌, ◌≤◌, ◌<◌, ℕ, ◌+◌, ◌*◌, ◌%◌, Bool, ◌==◌, List, map, slice_index}
+use Rattle.std.specs.List.{range_with_len}
+use Rattle.std.specs.Int.{w8, cast_signed}
+use Rattle.isdbt_base.specs.declared.kinds.Mode.{Mode}
+use Rattle.isdbt_base.specs.Numbers.{frame_symbols, carriers}
+use Rattle.cell_map.specs.declared.cell.Cell.{Cell}
+use Rattle.coder_core.specs.SentCells.{frame_size}
+
+-- bytes of a symbol
+abbrev pub symbol_size : Mode → ℕ
+symbol_size mode = 1 + 26 * carriers mode
+
+-- the byte of the stream at which symbol k of frame f begins
+abbrev pub symbol_start : Mode → ℕ → ℕ → ℕ
+symbol_start mode f k = f * frame_size mode + k * symbol_size mode
+
+-- the TMCC bit of a symbol: the lowest of its first byte, whatever the others are
+abbrev pub tmcc_bit : Mode → List ℕ → ℕ → ℕ → Bool
+tmcc_bit mode stream f k = slice_index stream (symbol_start mode f k) % 2 == 1
+
+-- the TMCC word of frame f
+unfoldable pub stream_word : Mode → List ℕ → ℕ → List Bool
+stream_word mode stream f = map (tmcc_bit mode stream f) (range_with_len 0 frame_symbols)
+
+-- cells by frame, symbol, segment and carrier
+abbrev pub FrameCells : Type 0
+FrameCells = ℕ → ℕ → ℕ → ℕ → Cell
+
+-- the cell at a segment and carrier of symbol k of frame f
+unfoldable pub stream_cell : Mode → List ℕ → FrameCells
+stream_cell mode stream f k segment carrier = record { i = cast_signed w8 (slice_index stream at); q = cast_signed w8 (slice_index stream (at + 1)) }
+  where
+    at : ℕ
+    at = symbol_start mode f k + 1 + 2 * (segment * carriers mode + carrier)
+
+-- the cells of segment 0, by frame, symbol and carrier
+abbrev pub segment_cells : FrameCells → ℕ → ℕ → ℕ → Cell
+segment_cells cell g k carrier = cell g k 0 carrier
+
+-- cells that are alike in the frames up to f, at each place of a frame
+abbrev pub CellsAgreeUpTo : Mode → ℕ → FrameCells → FrameCells → Type 0
+CellsAgreeUpTo mode f cell other = (g k segment carrier : ℕ) → g ≤ f → k < frame_symbols → segment < 13 → carrier < carriers mode → cell g k segment carrier ≡ other g k segment carrier

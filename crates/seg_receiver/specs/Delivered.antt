@@ -1,0 +1,86 @@
+-- What is delivered of the frames of a plan, and which streams of cells are near the cells of a plan.
+use Rattle.std.specs.Prelude.{◌≡◌, ℕ, ◌+◌, ◌-◌, ◌*◌, ◌<◌, ◌≤◌, true, if◌then◌else◌, nat_le, Option, Some, None, List, [], length, flat_map}
+use Rattle.std.specs.List.{range_with_len}
+use Rattle.isdbt_base.specs.declared.kinds.Mode.{Mode}
+use Rattle.isdbt_base.specs.declared.kinds.Guard.{Guard}
+use Rattle.isdbt_base.specs.declared.kinds.Layer.{Layer}
+use Rattle.isdbt_base.specs.declared.kinds.Layer.TheVariants.{A}
+use Rattle.isdbt_base.specs.LayerParameters.{LayerParameters}
+use Rattle.isdbt_base.specs.Parameters.{layer_of}
+use Rattle.isdbt_base.specs.Numbers.{packets_per_frame, layer_delay, first_segment}
+use Rattle.isdbt_base.specs.Plans.{Schedule, at_frame}
+use Rattle.isdbt_base.specs.Frames.{FramePackets}
+use Rattle.isdbt_base.specs.Outcome.{product}
+use Rattle.ts_packet.specs.Packets.{null_packet, IsPacket}
+use Rattle.gf_rs.specs.Codewords.{codeword_of, differing, IsBytes}
+use Rattle.layer_chain.specs.OuterWords.{unit_word}
+use Rattle.coder_core.specs.SentCells.{plan_word, frame_size}
+use Rattle.remux_core.specs.Multiplex.{broadcast}
+use Rattle.seg_receiver.specs.CellStream.{stream_word, stream_cell}
+use Rattle.seg_receiver.specs.Received.{place_bits}
+
+-- a plan sends all frames in this mode
+abbrev pub KeepsMode : Mode → Schedule → Type 0
+KeepsMode mode p = (f : ℕ) → (at_frame p f).mode ≡ mode
+
+-- a plan sends all frames in this mode and with this guard interval
+abbrev pub HasMode : Mode → Guard → Schedule → Type 0
+HasMode mode guard p = (f : ℕ) → ((at_frame p f).mode ≡ mode) × ((at_frame p f).guard ≡ guard)
+
+-- how many frames of its epoch are before a frame
+abbrev pub into_epoch : Schedule → ℕ → ℕ
+into_epoch p f = f - (at_frame p f).start
+
+-- packet j of a layer as it is delivered in frame f: that of the frame before by the layer's delay, where the epoch has one
+abbrev pub delayed_packet : Schedule → FramePackets → ℕ → Layer → ℕ → Option LayerParameters → List ℕ
+delayed_packet p frames f x j None = null_packet
+delayed_packet p frames f x j (Some l) =
+    if nat_le (layer_delay (at_frame p f).mode l) (into_epoch p f) then frames (f - layer_delay (at_frame p f).mode l) x j else null_packet
+
+abbrev pub delivered_packets : Schedule → FramePackets → FramePackets
+delivered_packets p frames f x j = delayed_packet p frames f x j (layer_of (at_frame p f).setting x)
+
+-- the broadcast packets that are delivered of so many frames: those of the plan, each layer's packets put off by its delay
+abbrev pub delivered : Schedule → FramePackets → ℕ → List ℕ
+delivered p frames count = product (broadcast p (delivered_packets p frames)) count
+
+-- layer A's packets that are delivered in frame f: none before its delay in each epoch
+abbrev pub delivered_partial_frame : Schedule → FramePackets → ℕ → List ℕ
+delivered_partial_frame p frames f =
+    if nat_le (layer_delay (at_frame p f).mode (at_frame p f).setting.a) (into_epoch p f)
+    then flat_map (delivered_packets p frames f A) (range_with_len 0 (packets_per_frame (at_frame p f).mode (at_frame p f).setting.a))
+    else []
+
+abbrev pub delivered_partial : Schedule → FramePackets → ℕ → List ℕ
+delivered_partial p frames count = product (delivered_partial_frame p frames) count
+
+-- the layers' packets of the first so many frames are packets of bytes
+abbrev pub ArePackets : Schedule → FramePackets → ℕ → Type 0
+ArePackets p frames count = (f j : ℕ) (x : Layer) (l : LayerParameters) → f < count → layer_of (at_frame p f).setting x ≡ Some l → j < packets_per_frame (at_frame p f).mode l
+    → IsPacket (frames f x j) × IsBytes (frames f x j)
+
+-- ---- near streams
+
+-- the outer word of a layer's packet j that a receiver has for frame f
+abbrev pub outer_word_at : Mode → Schedule → List ℕ → LayerParameters → Layer → ℕ → ℕ → List ℕ
+outer_word_at mode p stream l x f j =
+    unit_word mode l (place_bits mode l (stream_cell mode stream) (at_frame p f).start (first_segment (at_frame p f).setting x)) ((into_epoch p f - layer_delay mode l) * packets_per_frame mode l + j)
+
+-- each outer word of a layer that is given out differs in at most eight bytes from its packet's codeword
+abbrev pub AreWordsNear : Mode → Schedule → FramePackets → ℕ → List ℕ → Layer → Type 0
+AreWordsNear mode p frames count stream x = (f j : ℕ) (l : LayerParameters) → f < count → layer_of (at_frame p f).setting x ≡ Some l
+    → layer_delay mode l ≤ into_epoch p f → j < packets_per_frame mode l
+    → differing (outer_word_at mode p stream l x f j) (codeword_of 16 (frames (f - layer_delay mode l) x j)) ≤ 8
+
+-- a stream is whole frames, with the plan's words, and its outer words are near for each layer
+pub record IsNear (mode : Mode) (p : Schedule) (frames : FramePackets) (count : ℕ) (stream : List ℕ) : Type 0 where
+  pub whole : length stream ≡ count * frame_size mode
+  pub words : (f : ℕ) → f < count → stream_word mode stream f ≡ plan_word p f
+  pub close : (x : Layer) → AreWordsNear mode p frames count stream x
+
+-- the same for partial reception, which asks it of layer A alone, and that layer A has a segment by itself
+pub record IsNearPartial (mode : Mode) (p : Schedule) (frames : FramePackets) (count : ℕ) (stream : List ℕ) : Type 0 where
+  pub whole : length stream ≡ count * frame_size mode
+  pub words : (f : ℕ) → f < count → stream_word mode stream f ≡ plan_word p f
+  pub close : AreWordsNear mode p frames count stream A
+  pub partial : (f : ℕ) → f < count → (at_frame p f).setting.partial ≡ true

@@ -1,0 +1,87 @@
+-- What a receiver gives out for a stream of cells, whatever it is: for each frame whose word is read, the broadcast packets of the word's setting, each layer's packets put off by its delay, with null packets before.
+use Rattle.std.specs.Prelude.{ℕ, zero, suc, ◌+◌, ◌-◌, ◌/◌, ◌%◌, Bool, if◌then◌else◌, nat_le, ◌==◌, Option, Some, None, Ok, Err, Result, List, [], flat_map}
+use Rattle.std.specs.List.{range_with_len}
+use Rattle.isdbt_base.specs.declared.kinds.Mode.{Mode}
+use Rattle.isdbt_base.specs.declared.kinds.Guard.{Guard}
+use Rattle.isdbt_base.specs.declared.kinds.Layer.{Layer}
+use Rattle.isdbt_base.specs.LayerParameters.{LayerParameters}
+use Rattle.isdbt_base.specs.Parameters.{Parameters, layer_of}
+use Rattle.isdbt_base.specs.Numbers.{frame_symbols, carriers, packets_per_frame, layer_delay, first_segment}
+use Rattle.isdbt_base.specs.Frames.{FramePackets}
+use Rattle.isdbt_base.specs.Outcome.{product}
+use Rattle.ts_packet.specs.Packets.{null_packet}
+use Rattle.bts_info.specs.Fields.{Tag}
+use Rattle.frame_order.specs.OrderedFrame.{ordered_frame}
+use Rattle.cell_map.specs.declared.cell.Cell.{Cell}
+use Rattle.cell_map.specs.Levels.{bits_of}
+use Rattle.tmcc_word.specs.declared.fault.TmccFault.{TmccFault}
+use Rattle.tmcc_word.specs.Fields.{TmccFields}
+use Rattle.tmcc_word.specs.Reading.{read}
+use Rattle.layer_chain.specs.OuterWords.{given_out}
+use Rattle.seg_receiver.specs.CellStream.{FrameCells, stream_word, stream_cell}
+
+-- the countdown that a word says; a word that is refused says none, as where no switch is near
+abbrev pub countdown_read : Result (TmccFields × Bool) TmccFault → ℕ
+countdown_read (Ok i) = i.0.countdown
+countdown_read (Err e) = 15
+
+-- the first frame of the epoch of a frame: an epoch begins after each frame whose countdown is 0
+unfoldable pub epoch_start : (ℕ → List Bool) → ℕ → ℕ
+epoch_start words zero = zero
+epoch_start words (suc f) = if countdown_read (read (words f)) == 0 then suc f else epoch_start words f
+
+-- the bits of the cell at place w of epoch symbol y of a layer, from the epoch's first frame and the layer's first segment
+abbrev pub place_bits : Mode → LayerParameters → FrameCells → ℕ → ℕ → ℕ → ℕ → ℕ
+place_bits mode l cell start first y w = bits_of l.modulation (cell (start + y / frame_symbols) (y % frame_symbols) (first + w / carriers mode) (w % carriers mode))
+
+-- packet j of a layer of a setting in frame f of an epoch, where the layer is used
+abbrev pub setting_packet : Mode → FrameCells → ℕ → ℕ → Parameters → Layer → ℕ → Option LayerParameters → List ℕ
+setting_packet mode cell start f s x j None = null_packet
+setting_packet mode cell start f s x j (Some l) = given_out mode l (place_bits mode l cell start (first_segment s x)) (f - start) j
+
+-- the same of what a word says
+abbrev pub word_packet : Mode → FrameCells → ℕ → ℕ → Layer → ℕ → Result (TmccFields × Bool) TmccFault → List ℕ
+word_packet mode cell start f x j (Err e) = null_packet
+word_packet mode cell start f x j (Ok i) = setting_packet mode cell start f i.0.now x j (layer_of i.0.now x)
+
+-- packet j of a layer in output frame f
+unfoldable pub received_packets : Mode → (ℕ → List Bool) → FrameCells → FramePackets
+received_packets mode words cell f x j = word_packet mode cell (epoch_start words f) f x j (read (words f))
+
+-- what a frame's packets bear, by its word and its epoch
+abbrev pub tag_read : TmccFields × Bool → ℕ → ℕ → Tag
+tag_read i start f = record { odd = i.1; first = start == f; start_up = i.0.start_up; countdown = i.0.countdown }
+
+-- a frame of what its word says, nothing where the word is refused
+abbrev pub word_frame : Mode → Guard → ℕ → ℕ → (Layer → ℕ → List ℕ) → Result (TmccFields × Bool) TmccFault → List ℕ
+word_frame mode guard start f packet (Err e) = []
+word_frame mode guard start f packet (Ok i) = ordered_frame mode guard i.0.now (tag_read i start f) packet
+
+-- output frame f
+unfoldable pub received_frame : Mode → Guard → (ℕ → List Bool) → FrameCells → ℕ → List ℕ
+received_frame mode guard words cell f = word_frame mode guard (epoch_start words f) f (received_packets mode words cell f) (read (words f))
+
+-- what a receiver writes for the first so many frames of a stream
+abbrev pub received : Mode → Guard → List ℕ → ℕ → List ℕ
+received mode guard stream count = product (received_frame mode guard (stream_word mode stream) (stream_cell mode stream)) count
+
+-- ---- partial reception
+
+-- layer A's packets that are given out in frame h of an epoch, from the cells of one segment: none before its delay
+abbrev pub partial_packets : Mode → LayerParameters → (ℕ → ℕ → ℕ → Cell) → ℕ → ℕ → List ℕ
+partial_packets mode l cell start h =
+    if nat_le (layer_delay mode l) h
+    then flat_map (given_out mode l (place_bits mode l (λ g k segment carrier. cell g k carrier) start 0) h) (range_with_len 0 (packets_per_frame mode l))
+    else []
+
+-- the same of what a word says
+abbrev pub word_partial : Mode → (ℕ → ℕ → ℕ → Cell) → ℕ → ℕ → Result (TmccFields × Bool) TmccFault → List ℕ
+word_partial mode cell start f (Err e) = []
+word_partial mode cell start f (Ok i) = partial_packets mode i.0.now.a cell start (f - start)
+
+-- layer A's packets in output frame f of partial reception, from the words and the cells of segment 0 alone
+unfoldable pub partial_frame : Mode → (ℕ → List Bool) → (ℕ → ℕ → ℕ → Cell) → ℕ → List ℕ
+partial_frame mode words cell f = word_partial mode cell (epoch_start words f) f (read (words f))
+
+abbrev pub received_partial : Mode → (ℕ → List Bool) → (ℕ → ℕ → ℕ → Cell) → ℕ → List ℕ
+received_partial mode words cell count = product (partial_frame mode words cell) count
