@@ -1,8 +1,12 @@
+pub mod BroadcastSlots
 pub mod CleanDelivered
 pub mod EpochStarts
+pub mod FoundFrames
+pub mod MultiplexedBytes
 pub mod NearDelivered
 pub mod PartialDelivered
 pub mod Pieces
 pub mod PlanModes
+pub mod RangeCuts
 pub mod StableFrames
 pub mod StreamLaws

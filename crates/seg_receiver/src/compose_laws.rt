@@ -1,0 +1,56 @@
+//! Laws of the commands one after another: `code` of what `remux` writes, and what is received of it.
+
+ghost use Rattle.std.specs.Prelude.{◌≡◌, ℕ, ◌<◌, Some, List};
+ghost use Rattle.isdbt_base.specs.declared.kinds.Layer.{Layer};
+ghost use Rattle.isdbt_base.specs.LayerParameters.{LayerParameters};
+ghost use Rattle.isdbt_base.specs.Parameters.{layer_of};
+ghost use Rattle.isdbt_base.specs.Numbers.{packets_per_frame};
+ghost use Rattle.isdbt_base.specs.Plans.{Schedule, IsPlan, at_frame};
+ghost use Rattle.isdbt_base.specs.Frames.{FramePackets};
+ghost use Rattle.isdbt_base.specs.Outcome.{product};
+ghost use Rattle.ts_packet.specs.Packets.{IsPacket};
+ghost use Rattle.gf_rs.specs.Codewords.{IsBytes};
+ghost use Rattle.remux_core.specs.Multiplex.{broadcast, multiplexed, written_frame};
+ghost use Rattle.remux_core.specs.Parts.{IsGood};
+ghost use Rattle.coder_core.specs.InputFrames.{first_head, frame_at, input_frames};
+ghost use Rattle.coder_core.specs.SentCells.{frame_cells};
+ghost use Rattle.coder_core.specs.CodeRefusals.{coded_frame};
+ghost use Rattle.seg_receiver.specs.Received.{received};
+ghost use Rattle.seg_receiver.specs.Delivered.{HasMode, delivered, ArePackets};
+ghost use Rattle.seg_receiver.specs.Composed.{broadcast_stream, HaveSize};
+
+use isdbt_base::{Guard, Mode};
+
+/// What `code` finds in the broadcast packets of a plan's frames, with switches or without, is what was multiplexed: the
+/// first head at the first packet, the bytes of each frame, and each packet of each layer.
+pub fn found_law()
+    ensures head { (p : Schedule) (frames : FramePackets) (count : ℕ) → IsPlan p → HaveSize p frames count → 0 < count → first_head (broadcast_stream p frames count) ≡ Some 0 }
+    ensures frame { (p : Schedule) (frames : FramePackets) (count f : ℕ) → IsPlan p → HaveSize p frames count → f < count → frame_at p (broadcast_stream p frames count) 0 f ≡ broadcast p frames f }
+    ensures packets { (p : Schedule) (frames : FramePackets) (count f j : ℕ) (x : Layer) (l : LayerParameters) → IsPlan p → HaveSize p frames count → f < count → layer_of (at_frame p f).setting x ≡ Some l → j < packets_per_frame (at_frame p f).mode l
+        → input_frames p (broadcast_stream p frames count) 0 f x j ≡ frames f x j }
+{}
+
+/// So the cells that `code` writes of them are those of the plan and the packets.
+pub fn composed_law()
+    ensures frame { (p : Schedule) (frames : FramePackets) (count f : ℕ) → IsPlan p → HaveSize p frames count → f < count → coded_frame p (broadcast_stream p frames count) f ≡ frame_cells p frames f }
+    ensures stream { (p : Schedule) (frames : FramePackets) (count : ℕ) → IsPlan p → HaveSize p frames count → product (coded_frame p (broadcast_stream p frames count)) count ≡ product (frame_cells p frames) count }
+{}
+
+/// And they are received as the multiplexed packets, each put off by its layer's delay.
+pub fn headline_law(mode: Mode, guard: Guard)
+    ensures { (p : Schedule) (frames : FramePackets) (count : ℕ) → IsPlan p → HasMode mode guard p → ArePackets p frames count
+        → received mode guard (product (coded_frame p (product (broadcast p frames) count)) count) count ≡ delivered p frames count }
+{}
+
+/// The packets of the multiplex of inputs of whole packets with their sync bytes are packets of bytes, over switches too.
+pub fn multiplexed_law()
+    ensures each { (p : Schedule) (input : Layer → List ℕ) → ((x : Layer) → IsGood (input x)) → ((x : Layer) → IsBytes (input x)) → (f : ℕ) (x : Layer) (j : ℕ) → IsPacket (multiplexed p input f x j) × IsBytes (multiplexed p input f x j) }
+    ensures packets { (p : Schedule) (input : Layer → List ℕ) (count : ℕ) → ((x : Layer) → IsGood (input x)) → ((x : Layer) → IsBytes (input x)) → ArePackets p (multiplexed p input) count }
+{}
+
+/// So what `remux` writes of such inputs, coded by `code`, is received as the multiplex of them, each layer's packets put off
+/// by its delay, for any number of frames.
+pub fn chain_law(mode: Mode, guard: Guard)
+    ensures { (p : Schedule) (input : Layer → List ℕ) (count : ℕ) → IsPlan p → HasMode mode guard p → ((x : Layer) → IsGood (input x)) → ((x : Layer) → IsBytes (input x))
+        → received mode guard (product (coded_frame p (product (written_frame p input) count)) count) count ≡ delivered p (multiplexed p input) count }
+{}
