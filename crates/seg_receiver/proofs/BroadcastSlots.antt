@@ -37,7 +37,7 @@ read_information packet i rest e g =
 length-information : (tag : Tag) (layer : Option Layer) (slot : ℕ) → length (information (info_for tag layer slot)) ≡ 8
 length-information tag layer slot = omega arith
 
-packet-information : (packet : List ℕ) (tag : Tag) (layer : Option Layer) (slot : ℕ) → length packet ≡ 188 → take 8 (drop 188 (broadcast_packet packet tag layer slot)) ≡ information (info_for tag layer slot)
+pub packet-information : (packet : List ℕ) (tag : Tag) (layer : Option Layer) (slot : ℕ) → length packet ≡ 188 → take 8 (drop 188 (broadcast_packet packet tag layer slot)) ≡ information (info_for tag layer slot)
 packet-information packet tag layer slot e = read_information packet (information (info_for tag layer slot)) (replicate 8 0xFF) e (length-information tag layer slot)
 
 packet-front : (packet : List ℕ) (tag : Tag) (layer : Option Layer) (slot : ℕ) → length packet ≡ 188 → take 188 (broadcast_packet packet tag layer slot) ≡ packet
@@ -50,7 +50,7 @@ length-broadcast_packet packet tag layer slot e =
     let q = length-append (packet ++ information (info_for tag layer slot)) (replicate 8 0xFF) in
     omega arith
 
-bit-most : (b : Bool) → from_bool b ≤ 1
+pub bit-most : (b : Bool) → from_bool b ≤ 1
 bit-most true = omega arith
 bit-most false = omega arith
 
@@ -78,7 +78,7 @@ abbrev pub slot_packet : Mode → Guard → Parameters → Tag → (Layer → �
 slot_packet mode guard s tag packet k = broadcast_packet (marked_packet packet (mark_at mode guard s k)) tag (option_map (λ m. m.layer) (mark_at mode guard s k)) k
 
 -- packets of 188 bytes, by layer and index
-length-marked : (mode : Mode) (guard : Guard) (s : Parameters) (packet : Layer → ℕ → List ℕ) → HasWholePackets mode s packet → (k : ℕ) → length (marked_packet packet (mark_at mode guard s k)) ≡ 188
+pub length-marked : (mode : Mode) (guard : Guard) (s : Parameters) (packet : Layer → ℕ → List ℕ) → HasWholePackets mode s packet → (k : ℕ) → length (marked_packet packet (mark_at mode guard s k)) ≡ 188
 length-marked mode guard s packet h k = go (mark_at mode guard s k) refl
   where
     go : (o : Option Mark) → mark_at mode guard s k ≡ o → length (marked_packet packet o) ≡ 188
@@ -144,7 +144,7 @@ same_layer-none C = refl
 abbrev has_layer : Mode → Guard → Parameters → Layer → ℕ → Bool
 has_layer mode guard s x k = same_layer x (option_map (λ m. m.layer) (mark_at mode guard s k))
 
-abbrev layer_size : Mode → Parameters → Layer → ℕ
+abbrev pub layer_size : Mode → Parameters → Layer → ℕ
 layer_size mode s x = number_of (packets_per_frame mode) (layer_of s x)
 
 slots-kept : (mode : Mode) (guard : Guard) (s : Parameters) (x : Layer) → IsAccepted s → AreKept (has_layer mode guard s x) (λ j. slot_of mode guard s (mark x j)) 0 (slots_per_frame mode guard) 0 (layer_size mode s x)

@@ -35,19 +35,19 @@ use Rattle.seg_receiver.proofs.CleanDelivered.{plan_cells-near}
 -- ---- the frames
 
 -- each packet of a frame has 188 bytes
-whole_packets : (p : Schedule) (frames : FramePackets) (count f : ℕ) → HaveSize p frames count → f < count → HasWholePackets (at_frame p f).mode (at_frame p f).setting (frames f)
+pub whole_packets : (p : Schedule) (frames : FramePackets) (count f : ℕ) → HaveSize p frames count → f < count → HasWholePackets (at_frame p f).mode (at_frame p f).setting (frames f)
 whole_packets p frames count f sizes h m in_m =
     elim (option_cases (layer_of (at_frame p f).setting m.layer)) [
       | inl none ↦ absurd (let e : number_of (packets_per_frame (at_frame p f).mode) (layer_of (at_frame p f).setting m.layer) ≡ 0 = ap (number_of (packets_per_frame (at_frame p f).mode)) none in omega (arith, e, in_m))
       | inr used ↦ sizes f m.index m.layer used.0 h used.1 (let e : number_of (packets_per_frame (at_frame p f).mode) (layer_of (at_frame p f).setting m.layer) ≡ packets_per_frame (at_frame p f).mode used.0 = ap (number_of (packets_per_frame (at_frame p f).mode)) used.1 in omega (arith, e, in_m))
     ]
 
-length-broadcast : (p : Schedule) (frames : FramePackets) (count f : ℕ) → HaveSize p frames count → f < count → length (broadcast p frames f) ≡ 204 * slots_at p f
+pub length-broadcast : (p : Schedule) (frames : FramePackets) (count f : ℕ) → HaveSize p frames count → f < count → length (broadcast p frames f) ≡ 204 * slots_at p f
 unfolding broadcast
 length-broadcast p frames count f sizes h =
     length-ordered_frame (at_frame p f).mode (at_frame p f).guard (at_frame p f).setting (frame_tag (at_frame p f) f) (frames f) (whole_packets p frames count f sizes h)
 
-slots-positive : (p : Schedule) (f : ℕ) → IsPlan p → 0 < slots_at p f
+pub slots-positive : (p : Schedule) (f : ℕ) → IsPlan p → 0 < slots_at p f
 slots-positive p f plan = (let e = total-below_slots (at_frame p f).mode (at_frame p f).guard (at_frame p f).setting (setting_accepted p f plan) in omega (arith, e))
 
 -- the bytes of frame f are its broadcast packets
@@ -61,7 +61,7 @@ frame_at-broadcast p frames count f sizes h =
 
 -- ---- the first head
 
-first_packet : (p : Schedule) (frames : FramePackets) (count : ℕ) → IsPlan p → HaveSize p frames count → 0 < count → piece 204 (broadcast_stream p frames count) 0 ≡ piece 204 (broadcast p frames 0) 0
+pub first_packet : (p : Schedule) (frames : FramePackets) (count : ℕ) → IsPlan p → HaveSize p frames count → 0 < count → piece 204 (broadcast_stream p frames count) 0 ≡ piece 204 (broadcast p frames 0) 0
 unfolding packets_before
 first_packet p frames count plan sizes h =
     let stream = broadcast_stream p frames count in
@@ -126,7 +126,7 @@ coded-broadcast p frames count plan sizes =
 
 -- ---- what is received
 
-sizes_of : (p : Schedule) (frames : FramePackets) (count : ℕ) → ArePackets p frames count → HaveSize p frames count
+pub sizes_of : (p : Schedule) (frames : FramePackets) (count : ℕ) → ArePackets p frames count → HaveSize p frames count
 sizes_of p frames count packets f j x l h used k = (packets f j x l h used k).0.size
 
 pub received-broadcast : (mode : Mode) (guard : Guard) (p : Schedule) (frames : FramePackets) (count : ℕ) → IsPlan p → HasMode mode guard p → ArePackets p frames count

@@ -1,7 +1,9 @@
+pub mod AcceptedStream
 pub mod BroadcastSlots
 pub mod CleanDelivered
 pub mod EpochStarts
 pub mod FoundFrames
+pub mod GoodFrames
 pub mod MultiplexedBytes
 pub mod NearDelivered
 pub mod PartialDelivered

@@ -1,20 +1,20 @@
 //! Laws of the commands one after another: `code` of what `remux` writes, and what is received of it.
 
-ghost use Rattle.std.specs.Prelude.{◌≡◌, ℕ, ◌<◌, Some, List};
+ghost use Rattle.std.specs.Prelude.{◌≡◌, ℕ, ◌<◌, ◌≤◌, Some, None, List};
 ghost use Rattle.isdbt_base.specs.declared.kinds.Layer.{Layer};
 ghost use Rattle.isdbt_base.specs.LayerParameters.{LayerParameters};
 ghost use Rattle.isdbt_base.specs.Parameters.{layer_of};
 ghost use Rattle.isdbt_base.specs.Numbers.{packets_per_frame};
 ghost use Rattle.isdbt_base.specs.Plans.{Schedule, IsPlan, at_frame};
 ghost use Rattle.isdbt_base.specs.Frames.{FramePackets};
-ghost use Rattle.isdbt_base.specs.Outcome.{product};
+ghost use Rattle.isdbt_base.specs.Outcome.{product, IsOutcome};
 ghost use Rattle.ts_packet.specs.Packets.{IsPacket};
 ghost use Rattle.gf_rs.specs.Codewords.{IsBytes};
 ghost use Rattle.remux_core.specs.Multiplex.{broadcast, multiplexed, written_frame};
 ghost use Rattle.remux_core.specs.Parts.{IsGood};
 ghost use Rattle.coder_core.specs.InputFrames.{first_head, frame_at, input_frames};
 ghost use Rattle.coder_core.specs.SentCells.{frame_cells};
-ghost use Rattle.coder_core.specs.CodeRefusals.{coded_frame};
+ghost use Rattle.coder_core.specs.CodeRefusals.{code_refusal, is_there, coded_frame};
 ghost use Rattle.seg_receiver.specs.Received.{received};
 ghost use Rattle.seg_receiver.specs.Delivered.{HasMode, delivered, ArePackets};
 ghost use Rattle.seg_receiver.specs.Composed.{broadcast_stream, HaveSize};
@@ -53,4 +53,13 @@ pub fn multiplexed_law()
 pub fn chain_law(mode: Mode, guard: Guard)
     ensures { (p : Schedule) (input : Layer → List ℕ) (count : ℕ) → IsPlan p → HasMode mode guard p → ((x : Layer) → IsGood (input x)) → ((x : Layer) → IsBytes (input x))
         → received mode guard (product (coded_frame p (product (written_frame p input) count)) count) count ≡ delivered p (multiplexed p input) count }
+{}
+
+/// And `code` refuses no frame of what `remux` writes: of a plan's frames of packets, as many as its limit allows, it finds all
+/// and ends behind the last.
+pub fn accepted_law()
+    ensures each { (p : Schedule) (frames : FramePackets) (count limit : ℕ) → IsPlan p → ArePackets p frames count → count ≤ limit
+        → IsOutcome (code_refusal p (product (broadcast p frames) count) limit) (is_there p (product (broadcast p frames) count)) count None }
+    ensures written { (p : Schedule) (input : Layer → List ℕ) (count limit : ℕ) → IsPlan p → ((x : Layer) → IsGood (input x)) → ((x : Layer) → IsBytes (input x)) → count ≤ limit
+        → IsOutcome (code_refusal p (product (written_frame p input) count) limit) (is_there p (product (written_frame p input) count)) count None }
 {}

@@ -4,11 +4,14 @@
 //! A receiver knows the mode and the guard interval from its caller, and all else from the stream: the TMCC word of each
 //! frame says the setting, and the countdown of the words where an epoch ends. It gives out a frame of broadcast packets
 //! for each frame whose word is read. The laws say of which streams these are the packets that were sent, each put off by
-//! its layer's delay. And the commands compose: what `code` finds in what `remux` writes is what was multiplexed.
+//! its layer's delay. And the commands compose: what `code` finds in what `remux` writes is what was multiplexed,
+//! and it refuses none of it.
 #![tactic(auto)]
 
 mod compose_laws;
 mod laws;
 
-pub use compose_laws::{chain_law, composed_law, found_law, headline_law, multiplexed_law};
+pub use compose_laws::{
+    accepted_law, chain_law, composed_law, found_law, headline_law, multiplexed_law,
+};
 pub use laws::{near_law, partial_law, prefix_law, received_law};
