@@ -7,10 +7,10 @@ use Rattle.isdbt_base.specs.Parameters.{Parameters}
 use Rattle.isdbt_base.specs.Plans.{Transmission, Schedule, Switch, at_frame, at_from, in_epoch, IsPlan, RisesFrom, countdown_to}
 
 -- the first switch is behind a frame, or still to come
-at_from-after : (t : Transmission) (start : ℕ) (w : Switch) (ws : List Switch) (f : ℕ) → w.frame ≤ f → at_from t start (w ∷ ws) f ≡ at_from w.after w.frame ws f
+pub at_from-after : (t : Transmission) (start : ℕ) (w : Switch) (ws : List Switch) (f : ℕ) → w.frame ≤ f → at_from t start (w ∷ ws) f ≡ at_from w.after w.frame ws f
 at_from-after t start w ws f h = rw (le-leb w.frame f h) refl
 
-at_from-before : (t : Transmission) (start : ℕ) (w : Switch) (ws : List Switch) (f : ℕ) → f < w.frame → at_from t start (w ∷ ws) f ≡ in_epoch t start (w ∷ ws) f
+pub at_from-before : (t : Transmission) (start : ℕ) (w : Switch) (ws : List Switch) (f : ℕ) → f < w.frame → at_from t start (w ∷ ws) f ≡ in_epoch t start (w ∷ ws) f
 at_from-before t start w ws f h = rw (lt-leb w.frame f h) refl
 
 start-own : (first : Parameters) (t : Transmission) (start : ℕ) (ws : List Switch) → RisesFrom start first ws → (at_from t start ws start).start ≡ start
@@ -20,10 +20,10 @@ start-own first t start (w ∷ ws) r = ap (λ a. a.start) (at_from-before t star
 pub epoch_start-zero : (p : Schedule) → IsPlan p → (at_frame p 0).start ≡ 0
 epoch_start-zero p h = start-own p.first.setting p.first 0 p.switches h.rising
 
-countdown-last : (e f : ℕ) → e ≡ suc f → countdown_to (Some e) f ≡ 0
+pub countdown-last : (e f : ℕ) → e ≡ suc f → countdown_to (Some e) f ≡ 0
 countdown-last e f h = rw (le-leb (e - f) 15 (omega arith)) (omega arith)
 
-countdown-other : (e f : ℕ) → suc f < e → (countdown_to (Some e) f ≡ 0 → ⊥)
+pub countdown-other : (e f : ℕ) → suc f < e → (countdown_to (Some e) f ≡ 0 → ⊥)
 countdown-other e f h z =
     elim (leb_tells (e - f) 15) [
       | inl near ↦ (let k = rw near.0 at z in omega (arith, k))

@@ -4,11 +4,15 @@ pub mod CleanDelivered
 pub mod EpochStarts
 pub mod FoundFrames
 pub mod GoodFrames
+pub mod InputDelivered
 pub mod MultiplexedBytes
 pub mod NearDelivered
+pub mod NearOutcome
+pub mod NextSettings
 pub mod PartialDelivered
 pub mod Pieces
 pub mod PlanModes
 pub mod RangeCuts
+pub mod SameSettings
 pub mod StableFrames
 pub mod StreamLaws

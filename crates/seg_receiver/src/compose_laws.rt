@@ -1,6 +1,6 @@
 //! Laws of the commands one after another: `code` of what `remux` writes, and what is received of it.
 
-ghost use Rattle.std.specs.Prelude.{◌≡◌, ℕ, ◌<◌, ◌≤◌, Some, None, List};
+ghost use Rattle.std.specs.Prelude.{◌≡◌, ℕ, ◌+◌, ◌-◌, ◌<◌, ◌≤◌, Some, None, List};
 ghost use Rattle.isdbt_base.specs.declared.kinds.Layer.{Layer};
 ghost use Rattle.isdbt_base.specs.LayerParameters.{LayerParameters};
 ghost use Rattle.isdbt_base.specs.Parameters.{layer_of};
@@ -8,15 +8,16 @@ ghost use Rattle.isdbt_base.specs.Numbers.{packets_per_frame};
 ghost use Rattle.isdbt_base.specs.Plans.{Schedule, IsPlan, at_frame};
 ghost use Rattle.isdbt_base.specs.Frames.{FramePackets};
 ghost use Rattle.isdbt_base.specs.Outcome.{product, IsOutcome};
-ghost use Rattle.ts_packet.specs.Packets.{IsPacket};
+ghost use Rattle.ts_packet.specs.Packets.{IsPacket, piece};
 ghost use Rattle.gf_rs.specs.Codewords.{IsBytes};
-ghost use Rattle.remux_core.specs.Multiplex.{broadcast, multiplexed, written_frame};
+ghost use Rattle.remux_core.specs.Multiplex.{placed_before, multiplexed, packet_count, broadcast, written_frame};
+ghost use Rattle.remux_core.specs.Answers.{IsPlacedIn};
 ghost use Rattle.remux_core.specs.Parts.{IsGood};
 ghost use Rattle.coder_core.specs.InputFrames.{first_head, frame_at, input_frames};
 ghost use Rattle.coder_core.specs.SentCells.{frame_cells};
 ghost use Rattle.coder_core.specs.CodeRefusals.{code_refusal, is_there, coded_frame};
 ghost use Rattle.seg_receiver.specs.Received.{received};
-ghost use Rattle.seg_receiver.specs.Delivered.{HasMode, delivered, ArePackets};
+ghost use Rattle.seg_receiver.specs.Delivered.{HasMode, delivered, ArePackets, frame_delay, IsDelivered};
 ghost use Rattle.seg_receiver.specs.Composed.{broadcast_stream, HaveSize};
 
 use isdbt_base::{Guard, Mode};
@@ -62,4 +63,11 @@ pub fn accepted_law()
         → IsOutcome (code_refusal p (product (broadcast p frames) count) limit) (is_there p (product (broadcast p frames) count)) count None }
     ensures written { (p : Schedule) (input : Layer → List ℕ) (count limit : ℕ) → IsPlan p → ((x : Layer) → IsGood (input x)) → ((x : Layer) → IsBytes (input x)) → count ≤ limit
         → IsOutcome (code_refusal p (product (written_frame p input) count) limit) (is_there p (product (written_frame p input) count)) count None }
+{}
+
+/// Each packet of an input that a frame of the multiplex places is delivered at that place of its layer, as many frames later as
+/// the layer's delay.
+pub fn input_law()
+    ensures { (p : Schedule) (input : Layer → List ℕ) (x : Layer) (i f : ℕ) → i < packet_count input x → IsPlacedIn p x i f
+        → IsDelivered p (multiplexed p input) x (f + frame_delay p f x) (i - placed_before p x f) (piece 188 (input x) i) }
 {}

@@ -1,0 +1,64 @@
+-- Which frames of a stream of cells a receiver refuses, and why.
+use Rattle.std.specs.Prelude.{ℕ, zero, suc, ◌+◌, ◌-◌, ◌*◌, Bool, false, not, ◌&&◌, ◌==◌, nat_lt, Option, Some, None, Result, Ok, Err, List, [], ◌∷◌, length, if◌then◌else◌}
+use Rattle.std.specs.Int.{from_bool}
+use Rattle.isdbt_base.specs.declared.kinds.Mode.{Mode}
+use Rattle.isdbt_base.specs.Bits.{bits_number}
+use Rattle.isdbt_base.specs.Parameters.{Parameters}
+use Rattle.isdbt_base.specs.Outcome.{first_some}
+use Rattle.edge_io.specs.declared.shelf.Seat.TheVariants as seats
+use Rattle.tmcc_word.specs.declared.fault.TmccFault.{TmccFault}
+use Rattle.tmcc_word.specs.declared.fault.TmccFault.TheVariants as words
+use Rattle.tmcc_word.specs.Fields.{TmccFields}
+use Rattle.tmcc_word.specs.Words.{setting_field}
+use Rattle.tmcc_word.specs.Reading.{read, ok_part}
+use Rattle.coder_core.specs.SentCells.{frame_size}
+use Rattle.seg_receiver.specs.declared.fault.ReceiveFault.{ReceiveFault}
+use Rattle.seg_receiver.specs.declared.fault.ReceiveFault.TheVariants.{Truncated, BadTmcc, Unannounced, NotPartial, TooLong}
+use Rattle.seg_receiver.specs.CellStream.{stream_word}
+
+-- whether frame f is there: where the stream has a byte of it
+abbrev pub receive_is_there : Mode → List ℕ → ℕ → Bool
+receive_is_there mode stream f = nat_lt (f * frame_size mode) (length stream)
+
+-- two settings are the same where a word has the same bits for both
+abbrev pub same_setting : Parameters → Parameters → Bool
+same_setting s u = bits_number (setting_field s) == bits_number (setting_field u)
+
+-- the setting that a word lets expect for the frame behind it: the next one where its countdown is 0, else the present one
+abbrev pub expected : TmccFields → Option Parameters
+expected said = if said.countdown == 0 then said.next else Some said.now
+
+-- whether a setting is the expected one, if there is one
+abbrev pub is_had : Option Parameters → Parameters → Bool
+is_had None s = false
+is_had (Some u) s = same_setting u s
+
+-- why a word that is read is refused behind the word of the frame before, if that is read too: both are odd or neither, or the setting isn't the expected one
+abbrev pub behind_refusal : ℕ → Option (TmccFields × Bool) → TmccFields × Bool → Option ReceiveFault
+behind_refusal f None said = None
+behind_refusal f (Some before) said =
+    if from_bool before.1 == from_bool said.1 then Some (BadTmcc f words.Sync)
+    else if is_had (expected before.0) said.0.now then None else Some (Unannounced f)
+
+-- why a word that is read is refused with partial reception: its flag is clear
+abbrev pub part_refusal : ℕ → Bool → Parameters → Option ReceiveFault
+part_refusal f partial s = if partial && not s.partial then Some (NotPartial f) else None
+
+-- why the word of frame f is refused: it isn't read, or it is refused behind the word before it, or with partial reception
+abbrev pub word_refusal : ℕ → Bool → Option (TmccFields × Bool) → Result (TmccFields × Bool) TmccFault → Option ReceiveFault
+word_refusal f partial before (Err reason) = Some (BadTmcc f reason)
+word_refusal f partial before (Ok said) = first_some (behind_refusal f before said ∷ part_refusal f partial said.0.now ∷ [])
+
+-- what the word of the frame before frame f says, if there is such a frame and its word is read
+abbrev pub said_before : Mode → List ℕ → ℕ → Option (TmccFields × Bool)
+said_before mode stream zero = None
+said_before mode stream (suc f) = ok_part (read (stream_word mode stream f))
+
+-- why frame f is refused, in full or with partial reception, with a limit on frames: it stands at the limit, it is unfinished, or its word is refused
+unfoldable pub receive_refusal : Mode → Bool → List ℕ → ℕ → ℕ → Option ReceiveFault
+receive_refusal mode partial stream limit f =
+    if receive_is_there mode stream f
+    then first_some ((if f == limit then Some TooLong else None)
+    ∷ (if nat_lt (length stream) ((f + 1) * frame_size mode) then Some (Truncated seats.In (length stream - f * frame_size mode)) else None)
+    ∷ word_refusal f partial (said_before mode stream f) (read (stream_word mode stream f)) ∷ [])
+    else None
