@@ -1,4 +1,4 @@
-//! The receivers, as far as they are definitions and laws over them: what a receiver gives out of a stream of cells, by
+//! The receivers, as far as they are definitions, laws over them and the first checks of words: what a receiver gives out of a stream of cells, by
 //! definition, and the laws of it.
 //!
 //! A receiver knows the mode and the guard interval from its caller, and all else from the stream: the TMCC word of each
@@ -13,6 +13,7 @@ mod compose_laws;
 mod fault;
 mod laws;
 mod outcome_laws;
+mod words;
 
 pub use compose_laws::{
     accepted_law, chain_law, composed_law, found_law, headline_law, input_law, multiplexed_law,
@@ -20,3 +21,4 @@ pub use compose_laws::{
 pub use fault::ReceiveFault;
 pub use laws::{near_law, partial_law, prefix_law, received_law};
 pub use outcome_laws::{near_outcome_law, same_setting_law};
+pub use words::{check_part, expected_setting};
