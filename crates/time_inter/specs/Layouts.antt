@@ -35,3 +35,12 @@ layer_layout length carriers segments = record {
   paths = segments * carriers;
   path_delay = λ w. length * carrier_delay (w % carriers);
 }
+
+-- the partner at the receiving side: each cell late by what is left of 95 times the length
+abbrev pub layer_deinter_layout : ℕ → ℕ → ℕ → Layout ℕ
+layer_deinter_layout length carriers segments = record {
+  delay = length * 95;
+  zero = 0;
+  paths = segments * carriers;
+  path_delay = λ w. length * (95 - carrier_delay (w % carriers));
+}

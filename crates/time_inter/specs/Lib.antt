@@ -1,3 +1,4 @@
 pub mod CellPlaces
+pub mod LayerPartner
 pub mod LayerStage
 pub mod Layouts

@@ -7,12 +7,14 @@
 
 mod cell_place;
 mod laws;
+mod layer_deinter;
 mod layer_inter;
 mod time_deinter;
 mod time_inter;
 
 pub use cell_place::{CellPlace, place};
 pub use laws::{held_law, partner_law};
+pub use layer_deinter::LayerDeinter;
 pub use layer_inter::LayerInter;
 pub use time_deinter::TimeDeinter;
 pub use time_inter::TimeInter;

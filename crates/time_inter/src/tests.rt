@@ -3,7 +3,7 @@
 ghost use Rattle.std.specs.Prelude.{◌≡◌, ◌≤◌, IfOk};
 ghost use Rattle.isdbt_base.specs.Numbers.{carriers};
 
-use crate::{CellPlace, TimeDeinter, TimeInter, place};
+use crate::{CellPlace, LayerDeinter, TimeDeinter, TimeInter, place};
 use delay_line::{Stage, through};
 use isdbt_base::{
     DepthCode, Layer, LayerSetting, Mode, Modulation, Rate, Setting, adjust_of, carriers, depth_of,
@@ -36,6 +36,21 @@ fn carrier_twenty_delay(rt: HostRuntime) -> Result<(), Fail> {
     );
     assert_eq!(rt;
         delays(&deinter, [0, 20, 96]),
+        [Some(1520), Some(1456), None]
+    );
+    Ok(())
+}
+
+#[test]
+fn layer_partner_delays(rt: HostRuntime) -> Result<(), Fail> {
+    let layer = LayerSetting::new(2, Modulation::Qpsk, Rate::R23, DepthCode::D3).ok_or("refused")?;
+    let deinter = LayerDeinter::open(rt.alloc(), &layer, Mode::M1)?;
+    assert_eq!(rt;
+        (deinter.paths(), deinter.delay(), deinter.zero()),
+        (192, 1520, 0)
+    );
+    assert_eq!(rt;
+        delays(&deinter, [0, 116, 192]),
         [Some(1520), Some(1456), None]
     );
     Ok(())

@@ -117,6 +117,7 @@ impl Decoder {
         requires whole { length bits.now % rate_bits (rate_of self.old) ≡ 0 }
         requires room { steps_in (rate_of self.old) (length bits.now) ≤ length out.old }
         ensures count { (read : ℕ → Bool) (steps : ℕ) → StandsFor self.old read steps → result + (steps - 127) ≡ steps + steps_in (rate_of self.old) (length bits.now) - 127 }
+        ensures most { result ≤ steps_in (rate_of self.old) (length bits.now) }
         ensures decided { (read : ℕ → Bool) (steps : ℕ) → StandsFor self.old read steps → GoesOn (rate_of self.old) read steps bits.now → (i : ℕ) → i < result → slice_index_or out.new i false ≡ decided_bit (rate_of self.old) read (steps - 127 + i) }
         ensures rest { (i : ℕ) → result ≤ i → slice_index_or out.new i false ≡ slice_index_or out.old i false }
         ensures state { (read : ℕ → Bool) (steps : ℕ) → StandsFor self.old read steps → GoesOn (rate_of self.old) read steps bits.now → StandsFor self.new read (steps + steps_in (rate_of self.old) (length bits.now)) }

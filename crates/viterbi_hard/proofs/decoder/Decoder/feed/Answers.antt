@@ -34,6 +34,7 @@ returns c =
     subst (λ m. FeedsTo c.args.self.now c.loop-pattern.self c.args.bits.now c.args.out.now c.loop-pattern.out c.loop-pattern.decided m) end c.loop-pattern.invariant.feed in
     record {
       count = λ read steps s. feed-count _ _ _ _ _ _ _ fed read steps s;
+      most = omega (arith, end, c.loop-pattern.invariant.few);
       decided = λ read steps s g. fed.decided read steps s g;
       rest = fed.rest;
       state = λ read steps s g. feed-state _ _ _ _ _ _ _ fed read steps s g;
