@@ -1,12 +1,13 @@
 -- The numbers of cells' bits.
-use Rattle.std.proofs.Common.{◌≡◌, ℕ, zero, suc, ◌+◌, ◌*◌, ◌^◌, ◌<◌, ◌≤◌, Bool, true, false, List, length, take, drop, get_or, refl, ap, ◌∙◌, arith}
+use Rattle.std.proofs.Common.{◌≡◌, ℕ, zero, suc, ◌+◌, ◌*◌, ◌^◌, ◌<◌, ◌≤◌, Bool, true, false, List, ◌++◌, length, take, drop, get_or, inl, inr, refl, sym, ap, ◌∙◌, arith}
 use Rattle.std.specs.Int.{from_bool}
-use Rattle.std.proofs.Math.Nat.{pow-suc}
-use Rattle.std.proofs.lemmas.List.{get_or-take, get_or-drop}
+use Rattle.std.proofs.Math.Nat.{mul-add, mul-le-mul_left, pow-suc}
+use Rattle.std.proofs.lemmas.Bool.{cases_lt}
+use Rattle.std.proofs.lemmas.List.{get_or-take, get_or-drop, get_or_append_left, get_or-append_right, length-take-le}
 use Rattle.isdbt_base.specs.declared.kinds.Mode.{Mode}
 use Rattle.isdbt_base.specs.LayerParameters.{LayerParameters}
 use Rattle.isdbt_base.specs.Numbers.{cell_bits}
-use Rattle.layer_chain.specs.LayerCells.{cell_number, placed_bit, cell_bits_at}
+use Rattle.layer_chain.specs.LayerCells.{cell_number, placed_bit, cell_bits_at, bit_of_number}
 
 pub cell_number-more : (i n x : ℕ) (b : ℕ → Bool) → n ≡ cell_number i b → x ≡ from_bool (b i) → 2 * n + x ≡ cell_number (i + 1) b
 unfolding cell_number
@@ -49,3 +50,24 @@ cell_number-part width start bits part is size =
 pub cell_bits_at-lt : (mode : Mode) (l : LayerParameters) (coded : ℕ → Bool) (y w : ℕ) → cell_bits_at mode l coded y w < 2 ^ cell_bits l.modulation
 unfolding cell_bits_at
 cell_bits_at-lt mode l coded y w = cell_number-lt (cell_bits l.modulation) (placed_bit mode l coded y w)
+
+-- the bits of one number more, behind those of the numbers before
+pub bits-more : (width cell : ℕ) (numbers : List ℕ) (old new part : List Bool) → take (width * cell + width) new ≡ take (width * cell) old ++ part → width * cell ≤ length old
+    → ((e r : ℕ) → e < cell → r < width → get_or old (width * e + r) false ≡ bit_of_number width (get_or numbers e 0) r)
+    → ((r : ℕ) → r < width → get_or part r false ≡ bit_of_number width (get_or numbers cell 0) r)
+    → (e r : ℕ) → e < cell + 1 → r < width → get_or new (width * e + r) false ≡ bit_of_number width (get_or numbers e 0) r
+bits-more width cell numbers old new part front room before here e r h k =
+    let at = width * cell in
+    let q = width * e + r in
+    let within : q < at + width = (let le : e ≤ cell = omega (arith, h) in let m = mul-le-mul_left width le in omega (arith, m, k)) in
+    sym (get_or-take (at + width) new q false within) ∙ ap (λ xs. get_or xs q false) front
+    ∙ elim (cases_lt e cell) [
+      | inl earlier ↦
+          let early : q < at = (let next : e + 1 ≤ cell = omega (arith, earlier) in let m = mul-le-mul_left width next in let d = mul-add width e 1 in omega (arith, m, d, k)) in
+          get_or_append_left (take at old) part false q (rw (length-take-le at old room) early) ∙ get_or-take at old q false early ∙ before e r earlier k
+      | inr last ↦
+          let same : cell ≡ e = omega (arith, last, h) in
+          let place : at + r ≡ q = ap (λ j. width * j + r) same in
+          get_or-append_right (take at old) part at q false (length-take-le at old room) (omega (arith, place)) ∙ ap (λ j. get_or part j false) (omega (arith, place))
+          ∙ here r k ∙ ap (λ j. bit_of_number width (get_or numbers j 0) r) same
+    ]

@@ -50,7 +50,7 @@ bit-delays Qam64 = refl
 
 -- ---- cells
 
-delays-same : (f g : ℕ → ℕ) (n : ℕ) → ((p : ℕ) → p < n → f p ≡ g p) → delays f n ≡ delays g n
+pub delays-same : (f g : ℕ → ℕ) (n : ℕ) → ((p : ℕ) → p < n → f p ≡ g p) → delays f n ≡ delays g n
 unfolding delays
 delays-same f g zero h = refl
 delays-same f g (suc n) h =
@@ -66,7 +66,7 @@ delays-more f n (suc m) =
     let before = delays-more f n m in
     rw e (omega (arith, before))
 
-delays-times : (k : ℕ) (f : ℕ → ℕ) (n : ℕ) → delays (λ p. k * f p) n ≡ k * delays f n
+pub delays-times : (k : ℕ) (f : ℕ → ℕ) (n : ℕ) → delays (λ p. k * f p) n ≡ k * delays f n
 unfolding delays
 delays-times k f zero = omega arith
 delays-times k f (suc n) = (let before = delays-times k f n in let e = mul-add k (delays f n) (f n) in omega (arith, before, e))
@@ -87,12 +87,12 @@ rounds (suc g) =
     let last = round in
     rw e (omega (arith, before, next, split, last))
 
-in_segment : (mode : Mode) (w : ℕ) → carrier_delay (w % carriers mode) ≡ carrier_delay w
+pub in_segment : (mode : Mode) (w : ℕ) → carrier_delay (w % carriers mode) ≡ carrier_delay w
 in_segment M1 w = omega arith
 in_segment M2 w = omega arith
 in_segment M3 w = omega arith
 
-segment_rounds : (mode : Mode) (segments : ℕ) → 2 * delays carrier_delay (segments * carriers mode) ≡ 95 * (segments * carriers mode)
+pub segment_rounds : (mode : Mode) (segments : ℕ) → 2 * delays carrier_delay (segments * carriers mode) ≡ 95 * (segments * carriers mode)
 segment_rounds M1 segments = (let e : segments * 96 ≡ 96 * segments = omega arith in let all = rounds segments in rw e (omega (arith, all)))
 segment_rounds M2 segments = (let e : segments * 192 ≡ 96 * (2 * segments) = omega arith in let all = rounds (2 * segments) in rw e (omega (arith, all)))
 segment_rounds M3 segments = (let e : segments * 384 ≡ 96 * (4 * segments) = omega arith in let all = rounds (4 * segments) in rw e (omega (arith, all)))

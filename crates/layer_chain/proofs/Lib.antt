@@ -1,6 +1,11 @@
 pub mod AdjustedFrames
+pub mod BytesHeld
 pub mod CellNumbers
 pub mod CleanWords
+pub mod DecidedLaws
+pub mod DecoderFrames
+pub mod DecoderParts
+pub mod DecoderSteps
 pub mod HeldItems
 pub mod LayerCellLaws
 pub mod LayerFrames
@@ -8,9 +13,15 @@ pub mod LayerParts
 pub mod NearAnswers
 pub mod OpenedLayer
 pub mod ReadBack
+pub mod ReaderFrames
+pub mod ReaderHeld
+pub mod ReaderLaws
 pub mod Sizes
 pub mod StableBits
 pub mod StableCells
 pub mod StableWords
+pub mod StageFrames
 pub mod Streams
 pub mod UnitLaws
+pub mod UnitWords
+pub mod WordAnswers

@@ -1,10 +1,14 @@
--- The items that the delay lines of a layer's coder hold.
+-- The items that the delay lines of a layer's coder and of its decoder hold.
 use Rattle.std.specs.Prelude.{ℕ, zero, suc, ◌+◌, List, [], length, slice_index_or}
 use Rattle.isdbt_base.specs.Numbers.{cell_bits}
 use Rattle.time_inter.specs.LayerStage as time
 use Rattle.layer_chain.specs.BitStage as bit
 use Rattle.layer_chain.specs.LayerCoder.{layer_of, cells_of}
 use Rattle.layer_chain.specs.declared.layer_coder.LayerCoder.{LayerCoder}
+use Rattle.time_inter.specs.LayerPartner as partner
+use Rattle.layer_chain.specs.BitDeinterleaver as late_bit
+use Rattle.layer_chain.specs.LayerDecoder as decoder
+use Rattle.layer_chain.specs.declared.layer_decoder.LayerDecoder.{LayerDecoder}
 
 -- the items that the first so many paths hold
 unfoldable pub items_in : {X : Type 0} → (ℕ → List X) → ℕ → ℕ
@@ -20,3 +24,13 @@ bits_in s = length s.bits.line + items_in (bit.held_of s.bits.stage) (cell_bits 
 
 abbrev pub cells_in : LayerCoder → ℕ
 cells_in s = length s.cells.line + items_in (time.held_of s.cells.stage) (cells_of s)
+
+-- a decoder has no adjustments
+abbrev pub decoder_bytes : LayerDecoder → ℕ
+decoder_bytes s = items_in (λ p. slice_index_or s.deinterleaver p []) 12
+
+abbrev pub decoder_bits : LayerDecoder → ℕ
+decoder_bits s = items_in (late_bit.held_of s.reader.bits) (cell_bits (decoder.layer_of s).modulation)
+
+abbrev pub decoder_cells : LayerDecoder → ℕ
+decoder_cells s = items_in (partner.held_of s.reader.cells) (decoder.cells_of s)

@@ -1,9 +1,14 @@
+pub mod BitDeinterleaver
 pub mod BitStage
 pub mod CodedBits
 pub mod CodedLayer
+pub mod DecidedBytes
 pub mod Held
 pub mod LayerCells
 pub mod LayerCoder
+pub mod LayerDecoder
 pub mod OuterWords
 pub mod SentBytes
 pub mod Streams
+pub mod SymbolReader
+pub mod UnitAnswers

@@ -1,6 +1,6 @@
 //! Cells that are known: by hand, and sums of an independent program's.
 
-ghost use Rattle.std.specs.Prelude.{◌≡◌, ◌*◌, IfOk, vec_len};
+ghost use Rattle.std.specs.Prelude.{◌≡◌, ◌*◌, ◌≤◌, IfOk, vec_len};
 ghost use Rattle.isdbt_base.specs.Numbers.{layer_cells};
 
 use crate::adjusted::Adjusted;
@@ -18,8 +18,9 @@ use time_inter::LayerInter;
 const ZEROS: Cell = Cell { i: 1, q: 1 };
 
 /// Cells of a frame.
-fn frame_cells(layer: &LayerSetting, mode: Mode) -> usize
-    ensures { result ≡ 204 * layer_cells mode layer.now }
+pub fn frame_cells(layer: &LayerSetting, mode: Mode) -> usize
+    ensures value { result ≡ 204 * layer_cells mode layer.now }
+    ensures most { result ≤ 1018368 }
 {
     204 * layer.cells(mode) as usize
 }
@@ -67,7 +68,7 @@ fn held_items(rt: HostRuntime) -> Result<(), Fail> {
 }
 
 /// Passes the coded bits of a frame on, of a layer of one segment with QPSK in mode 1, to the numbers of its cells.
-fn pass(
+pub fn pass(
     bits: &mut Adjusted<BitStage>,
     cells: &mut Adjusted<LayerInter>,
     coded: &[bool],

@@ -6,7 +6,7 @@
 //! units (`CodedLayer`); bit adjustment and interleaving, mapping, symbol adjustment and time interleaving make cells of
 //! them (`LayerCoder`). Every delay line and the encoder begin with zeros at each epoch.
 //!
-//! At the receiving side the definitions stand here, and their laws: from the bits that are read in a layer's cells the inner
+//! At the receiving side (`LayerDecoder`) a layer's cells come symbol by symbol: from the bits that are read in them the inner
 //! decoder decides the bits of each unit's outer word, and the packet of the codeword near this word is given out D frames
 //! after its own.
 //!
@@ -14,22 +14,31 @@
 #![tactic(auto)]
 
 mod adjusted;
+mod bit_deinterleaver;
 mod bit_stage;
+mod cell_bits;
 mod cell_numbers;
 mod coded_layer;
+mod decided_bytes;
 mod laws;
 mod layer_coder;
+mod layer_decoder;
 mod receive_laws;
+mod symbol_reader;
+mod unit_answers;
 mod units;
 
 pub use coded_layer::CodedLayer;
 pub use laws::{cell_prefix_law, distinct_places_law, prefix_law, read_back_law};
 pub use layer_coder::{Held, LayerCoder};
+pub use layer_decoder::LayerDecoder;
 pub use receive_laws::{
     answer_law, clean_words_law, given_packet_law, near_answer_law, near_codeword_law, window_law,
 };
 
 #[cfg(test)]
 mod cell_tests;
+#[cfg(test)]
+mod decoder_tests;
 #[cfg(test)]
 mod tests;

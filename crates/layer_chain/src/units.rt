@@ -20,7 +20,7 @@ const PARITY: usize = 16;
 const SYNC: [u8; 1] = [0x47];
 
 /// Puts bytes at a place, and gives the place behind them.
-fn put(out: &mut [u8], at: usize, bytes: &[u8]) -> usize
+pub fn put(out: &mut [u8], at: usize, bytes: &[u8]) -> usize
     requires { at + length bytes.now ≤ length out.old }
     ensures end { result ≡ at + length bytes.now }
     ensures front { take result out.new ≡ take at out.old ++ bytes.now }
