@@ -1,10 +1,14 @@
 pub mod AcceptedStream
 pub mod BroadcastSlots
 pub mod CleanDelivered
+pub mod DecoderParts
+pub mod EpochProgress
 pub mod EpochStarts
 pub mod FoundFrames
+pub mod FrameParts
 pub mod GoodFrames
 pub mod InputDelivered
+pub mod LaidPackets
 pub mod MultiplexedBytes
 pub mod NearDelivered
 pub mod NearOutcome
@@ -13,6 +17,10 @@ pub mod PartialDelivered
 pub mod Pieces
 pub mod PlanModes
 pub mod RangeCuts
+pub mod ReceiveProgress
+pub mod ReceivedParts
 pub mod SameSettings
 pub mod StableFrames
 pub mod StreamLaws
+pub mod SymbolPlaces
+pub mod TakenFrames

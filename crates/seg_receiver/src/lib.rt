@@ -1,18 +1,33 @@
-//! The receivers, as far as they are definitions, laws over them and the first checks of words: what a receiver gives out of a stream of cells, by
-//! definition, and the laws of it.
+//! The receivers: cells of a broadcast back into broadcast packets.
 //!
 //! A receiver knows the mode and the guard interval from its caller, and all else from the stream: the TMCC word of each
-//! frame says the setting, and the countdown of the words where an epoch ends. It gives out a frame of broadcast packets
-//! for each frame whose word is read. The laws say of which streams these are the packets that were sent, each put off by
-//! its layer's delay. And the commands compose: what `code` finds in what `remux` writes is what was multiplexed,
-//! and it refuses none of it. Which frames a receiver refuses, and why, is a definition too, and of near streams it
-//! refuses none.
+//! frame says the setting, and the countdown of the words where an epoch ends. [`receive`] gives out a frame of broadcast
+//! packets for each frame of cells, with the packets of each layer put off by its delay: frame after frame is read, checked,
+//! received and written, and each symbol is worked on as it is read. At each epoch a new [`Receiver`] begins.
+//!
+//! What is given out is a definition for any stream, and so is which frames are refused, and why: frames that are
+//! unfinished or past the limit, words that are refused, a sync word that is that of the frame before, and a setting that
+//! wasn't announced. Each answer of `receive` says by these what of the stream was written and taken.
+//!
+//! The laws say of which streams these are the packets that were sent, and that none of their frames is refused. And the
+//! commands compose: what `code` finds in what `remux` writes is what was multiplexed, and it refuses none of it.
 #![tactic(auto)]
 
+mod check_word;
 mod compose_laws;
+mod decoder_part;
+mod epochs;
 mod fault;
+mod feeding;
+mod frames;
 mod laws;
+mod layer_cells;
 mod outcome_laws;
+mod packet_bytes;
+mod receiver;
+mod receiving;
+mod same;
+mod symbols;
 mod words;
 
 pub use compose_laws::{
@@ -21,4 +36,6 @@ pub use compose_laws::{
 pub use fault::ReceiveFault;
 pub use laws::{near_law, partial_law, prefix_law, received_law};
 pub use outcome_laws::{near_outcome_law, same_setting_law};
+pub use receiver::Receiver;
+pub use receiving::receive;
 pub use words::{check_part, expected_setting};

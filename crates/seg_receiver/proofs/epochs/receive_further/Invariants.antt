@@ -1,0 +1,23 @@
+use Rattle.std.proofs.Common.{◌≡◌, ◌+◌, ◌<◌, ℕ, List, true}
+use Rattle.std.specs.declared.option.Option.{Option}
+use Rattle.edge_io.specs.declared.shelf.Seat.TheVariants as seats
+use Rattle.seg_receiver.specs.CellStream.{stream_cell}
+use Rattle.seg_receiver.specs.Receiver.{mode_of, guard_of, symbols_of, StandsFor}
+use Rattle.seg_receiver.specs.EpochAnswers.{InEpoch}
+use Rattle.seg_receiver.proofs.EpochProgress.{Going}
+use Rattle.seg_receiver.proofs.epochs.receive_further.Given as goal
+
+abbrev pub invariant-loop-number : goal.invariant-loop-number
+invariant-loop-number g l = record {
+  mode : mode_of l.receiver ≡ l.mode;
+  guard : guard_of l.receiver ≡ guard_of l.initial.receiver;
+  symbols : symbols_of l.receiver ≡ 0;
+  is_open : g.H.Shelf.is_open l.shelf seats.In ≡ true;
+  still_open : g.H.Shelf.is_open l.shelf ≡ g.H.Shelf.is_open l.initial.shelf;
+  shelf_kept : g.H.Shelf.faults l.shelf ≡ g.H.Shelf.faults l.initial.shelf;
+  sink_kept : g.K.Sink.faults l.sink ≡ g.K.Sink.faults l.initial.sink;
+  sink_room : g.K.Sink.room l.sink ≡ g.K.Sink.room l.initial.sink;
+  told : (stream : List ℕ) (start h : ℕ) (first : Option (List ℕ)) → start + h ≡ l.next → 0 < h → StandsFor l.initial.receiver (stream_cell l.mode stream) start h
+      → InEpoch l.mode (guard_of l.initial.receiver) stream l.limit start l.next l.said (g.H.Shelf.left l.initial.shelf seats.In) first (g.K.Sink.written l.initial.sink)
+      → Going l.receiver l.mode (guard_of l.initial.receiver) stream l.limit start l.number l.last (g.H.Shelf.left l.shelf seats.In) first (g.K.Sink.written l.sink);
+}

@@ -1,0 +1,177 @@
+//! The frames of a stream of cells, one after another: read, checked and written.
+
+ghost use Rattle.std.specs.Prelude.{◌≡◌, ℕ, List, ◌+◌, ◌*◌, ◌≤◌, ◌<◌, Bool, Some, None, true, length, take, OnOk, OnErr, IfOk, IfSome};
+ghost use Rattle.std.specs.declared.option.Option.{Option};
+ghost use Rattle.isdbt_base.specs.declared.kinds.Guard.{Guard};
+ghost use Rattle.isdbt_base.specs.Numbers.{carriers, slots_per_frame};
+ghost use Rattle.edge_io.specs.declared.shelf.Seat.TheVariants as seats;
+ghost use Rattle.edge_io.specs.Known.{append_known, ReachesRoom};
+ghost use Rattle.edge_io.specs.Causes.{HasCause};
+ghost use Rattle.coder_core.specs.SentCells.{frame_size};
+ghost use Rattle.tmcc_word.specs.Fields.{TmccFields};
+ghost use Rattle.seg_receiver.specs.CellStream.{FrameCells, stream_cell};
+ghost use Rattle.seg_receiver.specs.Receiver.{mode_of, guard_of, setting_of, symbols_of, StandsFor};
+ghost use Rattle.seg_receiver.specs.ReceiveAnswers.{ReceiveAnswer};
+ghost use Rattle.seg_receiver.specs.EpochAnswers.{epoch_frame, FrameCheck, Progress, TakeAnswer, TakeCause};
+
+use crate::check_word::check_word;
+use crate::fault::ReceiveFault;
+use crate::feeding::feed_read;
+use crate::receiver::Receiver;
+use crate::symbols::word_in;
+use bts_info::FrameTag;
+use cell_map::Cell;
+use edge_io::{Failed, Seat, Shelf, Sink, fill, write_whole};
+use isdbt_base::Mode;
+use tmcc_word::TmccInfo;
+
+/// What the word of a frame says of which so many bytes came, None where none came, or why the frame is refused.
+fn check_frame(
+    number: u32,
+    before: &Option<(TmccInfo, bool)>,
+    mode: Mode,
+    frame: &[u8],
+    count: usize,
+) -> Result<Option<(TmccInfo, bool)>, ReceiveFault>
+    requires size { length frame.now ≡ frame_size mode }
+    requires most { count ≤ length frame.now }
+    ensures { FrameCheck mode number before.now frame.now count result }
+{
+    if count == 0 {
+        return Ok(None);
+    }
+    if count < frame.len() {
+        return Err(ReceiveFault::Truncated {
+            seat: Seat::In,
+            over: count as u32,
+        });
+    }
+    match check_word(number, false, before, &word_in(frame, mode)) {
+        Ok(said) => Ok(Some(said)),
+        Err(fault) => Err(fault),
+    }
+}
+
+/// Reads the first frame of an epoch, which is held, and checks it.
+pub fn read_first<H: Shelf>(
+    number: u32,
+    limit: u32,
+    before: &Option<(TmccInfo, bool)>,
+    mode: Mode,
+    frame: &mut [u8],
+    shelf: &mut H,
+) -> Result<Option<(TmccInfo, bool)>, ReceiveFault>
+    requires below { number < limit }
+    requires size { length frame.old ≡ frame_size mode }
+    requires is_open { H.is_open shelf.old seats.In ≡ true }
+    ensures still_open { H.is_open shelf.new ≡ H.is_open shelf.old }
+    ensures answer { (guard : Guard) (stream : List ℕ) (first now : Option (List ℕ)) → Progress mode guard stream limit number before.now (H.left shelf.old seats.In) first now
+        → TakeAnswer mode guard stream limit number before.now frame.new first now (H.left shelf.new seats.In) result }
+    ensures cause { TakeCause (H.faults shelf.old) (H.faults shelf.new) result }
+{
+    let count = match fill(shelf, Seat::In, frame) {
+        Ok(count) => count,
+        Err(Failed) => return Err(ReceiveFault::ReadFault(Seat::In)),
+    };
+    check_frame(number, before, mode, frame, count)
+}
+
+/// Reads a further frame of an epoch, feeds its symbols as they come, and checks it.
+pub fn read_further<H: Shelf>(
+    receiver: &mut Receiver,
+    number: u32,
+    limit: u32,
+    before: &Option<(TmccInfo, bool)>,
+    mode: Mode,
+    frame: &mut [u8],
+    cells: &mut [Cell],
+    shelf: &mut H,
+) -> Result<Option<(TmccInfo, bool)>, ReceiveFault>
+    requires mode { mode_of receiver.old ≡ mode }
+    requires fresh { symbols_of receiver.old ≡ 0 }
+    requires below { number < limit }
+    requires size { length frame.old ≡ frame_size mode }
+    requires room { length cells.old ≡ 13 * carriers mode }
+    requires is_open { H.is_open shelf.old seats.In ≡ true }
+    ensures still_open { H.is_open shelf.new ≡ H.is_open shelf.old }
+    ensures answer { (guard : Guard) (stream : List ℕ) (first now : Option (List ℕ)) → Progress mode guard stream limit number before.now (H.left shelf.old seats.In) first now
+        → TakeAnswer mode guard stream limit number before.now frame.new first now (H.left shelf.new seats.In) result }
+    ensures state { IfOk result (λ o. IfSome o (λ said. (guard : Guard) (stream : List ℕ) (first now : Option (List ℕ)) → Progress mode guard stream limit number before.now (H.left shelf.old seats.In) first now
+        → (start h : ℕ) → start + h ≡ number → StandsFor receiver.old (stream_cell mode stream) start h → StandsFor receiver.new (stream_cell mode stream) start h)) }
+    ensures symbols { IfOk result (λ o. IfSome o (λ said. symbols_of receiver.new ≡ 204)) }
+    ensures mode_kept { mode_of receiver.new ≡ mode_of receiver.old }
+    ensures guard { guard_of receiver.new ≡ guard_of receiver.old }
+    ensures setting { setting_of receiver.new ≡ setting_of receiver.old }
+    ensures cause { TakeCause (H.faults shelf.old) (H.faults shelf.new) result }
+{
+    let count = match feed_read(receiver, mode, frame, cells, shelf) {
+        Ok(count) => count,
+        Err(Failed) => return Err(ReceiveFault::ReadFault(Seat::In)),
+    };
+    match check_frame(number, before, mode, frame, count) {
+        Ok(Some(said)) => Ok(Some(said)),
+        Ok(None) => Ok(None),
+        Err(fault) => Err(fault),
+    }
+}
+
+/// What the packets of a frame bear whose word says this.
+fn tag_of(said: &(TmccInfo, bool), first: bool) -> FrameTag
+    ensures { result ≡ record { odd = said.now.1; first = first; start_up = said.now.0.start_up; countdown = said.now.0.countdown } }
+{
+    FrameTag {
+        odd: said.1,
+        first,
+        start_up: said.0.start_up,
+        countdown: said.0.countdown,
+    }
+}
+
+/// Writes the frame that a receiver gives out behind a frame of cells whose word says this.
+pub fn put_frame<K: Sink>(
+    receiver: &mut Receiver,
+    said: &(TmccInfo, bool),
+    first: bool,
+    out: &mut [u8],
+    sink: &mut K,
+) -> Result<(), Failed>
+    requires whole { symbols_of receiver.old ≡ 204 }
+    requires room { length out.old ≡ 204 * slots_per_frame (mode_of receiver.old) (guard_of receiver.old) }
+    ensures ok { OnOk result ((cell : FrameCells) (start h : ℕ) → StandsFor receiver.old cell start h
+        → K.written sink.new ≡ append_known (K.written sink.old) (epoch_frame (mode_of receiver.old) (guard_of receiver.old) (setting_of receiver.old) cell start h said.now first)) }
+    ensures some { OnErr result ((cell : FrameCells) (start h : ℕ) → StandsFor receiver.old cell start h
+        → (n : ℕ) × (n < length (epoch_frame (mode_of receiver.old) (guard_of receiver.old) (setting_of receiver.old) cell start h said.now first))
+        × (K.written sink.new ≡ append_known (K.written sink.old) (take n (epoch_frame (mode_of receiver.old) (guard_of receiver.old) (setting_of receiver.old) cell start h said.now first)))) }
+    ensures state { (cell : FrameCells) (start h : ℕ) → StandsFor receiver.old cell start h → StandsFor receiver.new cell start (h + 1) }
+    ensures symbols { symbols_of receiver.new ≡ 0 }
+    ensures mode { mode_of receiver.new ≡ mode_of receiver.old }
+    ensures guard { guard_of receiver.new ≡ guard_of receiver.old }
+    ensures setting { setting_of receiver.new ≡ setting_of receiver.old }
+    ensures sink_room { K.room sink.new ≡ K.room sink.old }
+    ensures reached { OnErr result (ReachesRoom (K.room sink.old) (K.written sink.new)) }
+    ensures cause { HasCause (K.faults sink.old) (K.faults sink.new) result }
+{
+    receiver.frame(&tag_of(said, first), out);
+    write_whole(sink, out)
+}
+
+/// Whether the stream ends where the limit of frames is reached: reads one byte more.
+pub fn end_at_limit<H: Shelf>(
+    limit: u32,
+    mode: Mode,
+    frame: &mut [u8],
+    shelf: &mut H,
+) -> Result<u32, ReceiveFault>
+    requires size { length frame.old ≡ frame_size mode }
+    requires is_open { H.is_open shelf.old seats.In ≡ true }
+    ensures still_open { H.is_open shelf.new ≡ H.is_open shelf.old }
+    ensures answer { (guard : Guard) (stream : List ℕ) (last : Option (TmccFields × Bool)) (first now : Option (List ℕ)) → Progress mode guard stream limit limit last (H.left shelf.old seats.In) first now
+        → ReceiveAnswer mode guard stream limit first now (H.left shelf.new seats.In) result }
+    ensures cause { TakeCause (H.faults shelf.old) (H.faults shelf.new) result }
+{
+    match fill(shelf, Seat::In, &mut frame[..1]) {
+        Ok(0) => Ok(limit),
+        Ok(_) => Err(ReceiveFault::TooLong),
+        Err(Failed) => Err(ReceiveFault::ReadFault(Seat::In)),
+    }
+}
