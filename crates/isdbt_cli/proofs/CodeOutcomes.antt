@@ -11,7 +11,7 @@ use Rattle.coder_core.specs.declared.fault.CodeFault.TheVariants as core
 use Rattle.coder_core.specs.CodeRefusals.{code_refusal}
 use Rattle.coder_core.specs.Answers.{Refused, CodeAnswer as CoreAnswer, CodeCause as CoreCause}
 use Rattle.isdbt_cli.specs.declared.fault.RunFault.{RunFault}
-use Rattle.isdbt_cli.specs.declared.fault.RunFault.TheVariants.{Usage, BadSync, Truncated, HeadMisplaced, NoHead, WrongCount, OpenFault, ReadFault, WriteFault, TooLong, NoMemory}
+use Rattle.isdbt_cli.specs.declared.fault.RunFault.TheVariants.{Usage, BadSync, Truncated, HeadMisplaced, NoHead, WrongCount, BadTmcc, Unannounced, NotPartial, OpenFault, ReadFault, WriteFault, TooLong, NoMemory}
 use Rattle.isdbt_cli.specs.declared.fault.Outcome.{Outcome}
 use Rattle.isdbt_cli.specs.declared.fault.Outcome.TheVariants.{Done, Fault}
 use Rattle.isdbt_cli.specs.CommandLines.{Word, Command, code}
@@ -92,6 +92,9 @@ complete p name input before after left shelf shelf' sink sink' (Fault (Truncate
 complete p name input before after left shelf shelf' sink sink' (Fault (HeadMisplaced frame slot)) says cause none passed = never_refused p input (core.HeadMisplaced frame slot) before after passed says
 complete p name input before after left shelf shelf' sink sink' (Fault NoHead) says cause none passed = never_refused p input core.NoHead before after passed says
 complete p name input before after left shelf shelf' sink sink' (Fault (WrongCount frame layer found)) says cause none passed = never_refused p input (core.WrongCount frame layer found) before after passed says
+complete p name input before after left shelf shelf' sink sink' (Fault (BadTmcc frame reason)) says cause none passed = says
+complete p name input before after left shelf shelf' sink sink' (Fault (Unannounced frame)) says cause none passed = says
+complete p name input before after left shelf shelf' sink sink' (Fault (NotPartial frame)) says cause none passed = says
 complete p name input before after left shelf shelf' sink sink' (Fault (OpenFault seat)) says cause none passed = none.opened cause.1
 complete p name input before after left shelf shelf' sink sink' (Fault (ReadFault seat)) says cause none passed = none.read cause.1
 complete p name input before after left shelf shelf' sink sink' (Fault WriteFault) says cause none passed = none.wrote cause.1

@@ -3,9 +3,9 @@ use Rattle.std.proofs.Common.{◌≡◌, List, [], ◌∷◌, ◌++◌, sym, ap,
 use Rattle.std.specs.Prelude.{codes}
 use Rattle.isdbt_base.specs.Parameters.{IsAccepted}
 use Rattle.isdbt_base.specs.Plans.{Transmission, Schedule}
-use Rattle.isdbt_cli.specs.CommandLines.{Word, transmission_words, plan_words, IsSteady, IsName, remux, code, Spells}
+use Rattle.isdbt_cli.specs.CommandLines.{Word, transmission_words, plan_words, IsSteady, IsName, remux, code, receive, Spells}
 use Rattle.isdbt_cli.specs.Parsing.{BeginsWith, Follows}
-use Rattle.isdbt_cli.proofs.Spelling.{Sent, plan_of, steady, some_name, same_head, same_tail, same_transmission, words_of-remux, words_of-code, remux_or_code}
+use Rattle.isdbt_cli.proofs.Spelling.{Sent, plan_of, steady, some_name, same_head, same_tail, same_transmission, words_of-remux, words_of-code, words_of-receive, remux_or_code, code_or_receive}
 
 -- the words behind a plan
 abbrev pub input_words : Word → List Word
@@ -16,6 +16,7 @@ follows t name ok some = (code (plan_of t) name, record { command = record { pla
 
 followed : (t : Transmission) (words : List Word) → IsAccepted t.setting → Follows (codes "code") (transmission_words t ++ words) → (name : Word) × IsName name × (words ≡ input_words name)
 followed t words ok (remux p a b c, s) = absurd (remux_or_code (sym (same_head (s.spelled ∙ words_of-remux p a b c))))
+followed t words ok (receive mode guard name, s) = absurd (code_or_receive (same_head (s.spelled ∙ words_of-receive mode guard name)))
 followed t words ok (code p name, s) =
     let same = same_transmission t p.first words (input_words name) ok s.command.plan.accepted.first (same_tail (s.spelled ∙ words_of-code p name)) in
     (name, s.command.input_name, same.1)
@@ -26,6 +27,7 @@ follows_plan p ok = (input_words (codes "a"), follows p.first (codes "a") ok.acc
 
 pub plan_follows : (ws : List Word) → Follows (codes "code") ([] ++ ws) → Sent ws
 plan_follows ws (remux p a b c, s) = absurd (remux_or_code (sym (same_head (s.spelled ∙ words_of-remux p a b c))))
+plan_follows ws (receive mode guard name, s) = absurd (code_or_receive (same_head (s.spelled ∙ words_of-receive mode guard name)))
 plan_follows ws (code p name, s) = (p, s.command.plan, input_words name, same_tail (s.spelled ∙ words_of-code p name))
 
 -- the name of the input

@@ -5,8 +5,11 @@ pub mod SettingWords
 pub mod Stuck
 pub mod Spelling
 pub mod CodeSpelling
+pub mod ReceiveSpelling
 pub mod OnePlace
 pub mod Rows
 pub mod NamedInputs
 pub mod Outcomes
 pub mod CodeOutcomes
+pub mod ReceiveOutcomes
+pub mod Chains

@@ -3,10 +3,9 @@ use Rattle.std.proofs.Common.{◌≡◌, ℕ, ◌+◌, ◌<◌, ◌≤◌, List,
 use Rattle.std.specs.Prelude.{codes, is_some}
 use Rattle.std.proofs.lemmas.List.{take-take, take_all, append-nil, append_cancel_left}
 use Rattle.std.proofs.lemmas.Bool.{cases_lt}
-use Rattle.std.specs.declared.option.Option.{Option}
 use Rattle.isdbt_base.specs.Plans.{Schedule}
-use Rattle.isdbt_cli.specs.CommandLines.{Word, transmission_words, Command, remux, code, Spells, CanGoOn, IsFaultAt}
-use Rattle.isdbt_cli.proofs.Spelling.{same_transmission, words_of-remux, words_of-code, remux_or_code, same_head, names_words, same_names}
+use Rattle.isdbt_cli.specs.CommandLines.{Word, transmission_words, Command, remux, code, receive, Spells, CanGoOn, IsFaultAt}
+use Rattle.isdbt_cli.proofs.Spelling.{same_transmission, words_of-remux, words_of-code, words_of-receive, remux_or_code, remux_or_receive, code_or_receive, mode_word-injective, guard_word-injective, same_head, same_tail, names_words, same_names, name_of, first_word}
 
 -- ---- the place is one
 
@@ -42,9 +41,9 @@ no_place words c p s f =
 same_plan : (p q : Schedule) → p.switches ≡ [] → q.switches ≡ [] → p.first ≡ q.first → p ≡ q
 same_plan p q none none' first = ap (λ v. record { first = v; switches = p.switches }) first ∙ ap (λ v. record { first = q.first; switches = v }) (none ∙ sym none')
 
--- no words are of both commands
-not_both : (words : List Word) (p q : Schedule) (a : Word) (b c : Option Word) (name : Word) → Spells words (remux p a b c) → Spells words (code q name) → ⊥
-not_both words p q a b c name s t = remux_or_code (same_head (sym (words_of-remux p a b c) ∙ sym s.spelled ∙ t.spelled ∙ words_of-code q name))
+-- commands of the same words have the same first word
+same_first : (words : List Word) (c d : Command) → Spells words c → Spells words d → name_of c ≡ name_of d
+same_first words c d s t = same_head (sym (first_word c).1 ∙ sym s.spelled ∙ t.spelled ∙ (first_word d).1)
 
 pub one_command : (words : List Word) (c d : Command) → Spells words c → Spells words d → c ≡ d
 one_command words (remux p a b c) (remux q a' b' c') s t =
@@ -55,8 +54,18 @@ one_command words (remux p a b c) (remux q a' b' c') s t =
     let used_c : is_some c ≡ is_some c' = s.command.c_used ∙ ap (λ x. is_some x.setting.c) sent.0 ∙ sym t.command.c_used in
     let names = same_names a a' b b' c c' used_b used_c sent.1 in
     ap (λ x. remux x a b c) plans ∙ ap (λ x. remux q x b c) names.0 ∙ ap (λ x. remux q a' x c) names.1 ∙ ap (λ x. remux q a' b' x) names.2
-one_command words (remux p a b c) (code q name) s t = absurd (not_both words p q a b c name s t)
-one_command words (code p name) (remux q a b c) s t = absurd (not_both words q p a b c name t s)
+one_command words (remux p a b c) (code q name) s t = absurd (remux_or_code (same_first words (remux p a b c) (code q name) s t))
+one_command words (remux p a b c) (receive m g name) s t = absurd (remux_or_receive (same_first words (remux p a b c) (receive m g name) s t))
+one_command words (code p name) (remux q a b c) s t = absurd (remux_or_code (same_first words (remux q a b c) (code p name) t s))
+one_command words (code p name) (receive m g name') s t = absurd (code_or_receive (same_first words (code p name) (receive m g name') s t))
+one_command words (receive m g name) (remux q a b c) s t = absurd (remux_or_receive (same_first words (remux q a b c) (receive m g name) t s))
+one_command words (receive m g name) (code q name') s t = absurd (code_or_receive (same_first words (code q name') (receive m g name) t s))
+one_command words (receive m g name) (receive m' g' name') s t =
+    let lines = sym (words_of-receive m g name) ∙ sym s.spelled ∙ t.spelled ∙ words_of-receive m' g' name' in
+    let modes = mode_word-injective m m' (same_head (same_tail lines)) in
+    let guards = guard_word-injective g g' (same_head (same_tail (same_tail lines))) in
+    let names : name ≡ name' = append_cancel_left (codes "IN=") name name' (same_head (same_tail (same_tail (same_tail lines)))) in
+    ap (λ x. receive x g name) modes ∙ ap (λ x. receive m' x name) guards ∙ ap (λ x. receive m' g' x) names
 one_command words (code p name) (code q name') s t =
     let lines : codes "code" ∷ (transmission_words p.first ++ ((codes "IN=" ++ name) ∷ [])) ≡ codes "code" ∷ (transmission_words q.first ++ ((codes "IN=" ++ name') ∷ [])) = sym (words_of-code p name) ∙ sym s.spelled ∙ t.spelled ∙ words_of-code q name' in
     let sent = same_transmission p.first q.first ((codes "IN=" ++ name) ∷ []) ((codes "IN=" ++ name') ∷ []) s.command.plan.accepted.first t.command.plan.accepted.first (ap (drop 1) lines) in

@@ -13,10 +13,10 @@ use Rattle.remux_core.specs.Parts.{IsGood}
 use Rattle.remux_core.specs.Refusals.{seat_of, refusal}
 use Rattle.remux_core.proofs.Refusing.{refusal-good}
 use Rattle.isdbt_cli.specs.declared.fault.RunFault.{RunFault}
-use Rattle.isdbt_cli.specs.declared.fault.RunFault.TheVariants.{Usage, BadSync, Truncated, HeadMisplaced, NoHead, WrongCount, OpenFault, ReadFault, WriteFault, TooLong, NoMemory}
+use Rattle.isdbt_cli.specs.declared.fault.RunFault.TheVariants.{Usage, BadSync, Truncated, HeadMisplaced, NoHead, WrongCount, BadTmcc, Unannounced, NotPartial, OpenFault, ReadFault, WriteFault, TooLong, NoMemory}
 use Rattle.isdbt_cli.specs.declared.fault.Outcome.{Outcome}
 use Rattle.isdbt_cli.specs.declared.fault.Outcome.TheVariants.{Done, Fault}
-use Rattle.isdbt_cli.specs.CommandLines.{Word, Command, remux, code, Spells, IsFaultAt}
+use Rattle.isdbt_cli.specs.CommandLines.{Word, Command, remux, code, receive, Spells, IsFaultAt}
 use Rattle.isdbt_cli.specs.Faults.{run_fault_of}
 use Rattle.isdbt_cli.specs.FrameLimit.{frame_limit}
 use Rattle.isdbt_cli.specs.Run.{Names, names_of, AreSeated, SeatsAfter, SeatsOf, RunAnswer, AnswerOf, CommandCause, CauseOf, NothingRose, IsDoneOrNoMemory, IsFree}
@@ -27,6 +27,7 @@ use Rattle.isdbt_cli.proofs.OnePlace.{no_place, one_place}
 not_usage : (c : Command) (shelf shelf' : Cause → ℕ) (sink sink' word : ℕ) → CauseOf c shelf shelf' sink sink' (Fault (Usage word)) → ⊥
 not_usage (remux p a b c) shelf shelf' sink sink' word cause = cause
 not_usage (code p name) shelf shelf' sink sink' word cause = cause
+not_usage (receive mode guard name) shelf shelf' sink sink' word cause = cause
 
 -- a command isn't refused for its words
 pub ok_usage : (words : List Word) (c : Command) (shelf shelf' : Cause → ℕ) (sink sink' : ℕ) (outcome : Outcome) (word : ℕ) → Spells words c → CauseOf c shelf shelf' sink sink' outcome → (outcome ≡ Fault (Usage word)) ↔ IsFaultAt words word
@@ -75,6 +76,9 @@ free p name input before after left shelf shelf' sink sink' (Fault (Truncated se
 free p name input before after left shelf shelf' sink sink' (Fault (HeadMisplaced frame slot)) says cause none only_long = says
 free p name input before after left shelf shelf' sink sink' (Fault NoHead) says cause none only_long = says
 free p name input before after left shelf shelf' sink sink' (Fault (WrongCount frame layer found)) says cause none only_long = says
+free p name input before after left shelf shelf' sink sink' (Fault (BadTmcc frame reason)) says cause none only_long = says
+free p name input before after left shelf shelf' sink sink' (Fault (Unannounced frame)) says cause none only_long = says
+free p name input before after left shelf shelf' sink sink' (Fault (NotPartial frame)) says cause none only_long = says
 free p name input before after left shelf shelf' sink sink' (Fault (OpenFault seat)) says cause none only_long = not_opened name shelf shelf' sink sink' seat cause.0.layer cause.0.word none cause.0.name_is cause.0.seat_is cause.0.rose
 free p name input before after left shelf shelf' sink sink' (Fault (ReadFault seat)) says cause none only_long = not_read name shelf shelf' sink sink' seat cause.0.0 none cause.0.2 cause.1
 free p name input before after left shelf shelf' sink sink' (Fault WriteFault) says cause none only_long = none.wrote cause.1
@@ -98,6 +102,9 @@ complete p name input before after left (Fault (Truncated seat over)) says never
 complete p name input before after left (Fault (HeadMisplaced frame slot)) says never is_free = is_free
 complete p name input before after left (Fault NoHead) says never is_free = is_free
 complete p name input before after left (Fault (WrongCount frame layer found)) says never is_free = is_free
+complete p name input before after left (Fault (BadTmcc frame reason)) says never is_free = is_free
+complete p name input before after left (Fault (Unannounced frame)) says never is_free = is_free
+complete p name input before after left (Fault (NotPartial frame)) says never is_free = is_free
 complete p name input before after left (Fault (OpenFault seat)) says never is_free = is_free
 complete p name input before after left (Fault (ReadFault seat)) says never is_free = is_free
 complete p name input before after left (Fault WriteFault) says never is_free = is_free

@@ -3,11 +3,11 @@ use Rattle.std.proofs.Common.{◌≡◌, [], ◌∷◌, true, false, None, Some,
 use Rattle.std.specs.Prelude.{codes}
 use Rattle.std.specs.Fmt.{digits}
 use Rattle.isdbt_base.specs.declared.kinds.Mode.TheVariants.{M1, M2, M3}
-use Rattle.isdbt_base.specs.declared.kinds.Guard.TheVariants.{G4, G8, G32}
+use Rattle.isdbt_base.specs.declared.kinds.Guard.TheVariants.{G4, G8, G16, G32}
 use Rattle.isdbt_base.specs.declared.kinds.Modulation.TheVariants.{Qpsk, Qam16, Qam64}
 use Rattle.isdbt_base.specs.declared.kinds.Rate.TheVariants.{R12, R23, R34, R56, R78}
 use Rattle.isdbt_base.specs.declared.kinds.DepthCode.TheVariants.{D0, D1, D2, D3}
-use Rattle.isdbt_cli.specs.CommandLines.{setting_word, remux, code, words_of}
+use Rattle.isdbt_cli.specs.CommandLines.{setting_word, remux, code, receive, words_of}
 
 -- one layer
 one_layer : words_of (remux (record { first = record { mode = M1; guard = G4; setting = record { partial = false; a = record { segments = 13; modulation = Qpsk; rate = R12; depth = D0 }; b = None; c = None } }; switches = [] }) (codes "a.ts") None None)
@@ -32,6 +32,11 @@ coding : words_of (code (record { first = record { mode = M3; guard = G8; settin
     ≡ codes "code" ∷ codes "3" ∷ codes "1/8" ∷ codes "A:1:qpsk:2/3:4:partial,B:12:64qam:3/4:2" ∷ codes "IN=x.bts" ∷ []
 unfolding words_of digits
 coding = refl
+
+-- a receiving
+receiving : words_of (receive M2 G16 (codes "x.cells")) ≡ codes "receive" ∷ codes "2" ∷ codes "1/16" ∷ codes "IN=x.cells" ∷ []
+unfolding words_of
+receiving = refl
 
 -- the same lengths of time interleaving in mode 2
 mode_2 : setting_word M2 (record { partial = false; a = record { segments = 6; modulation = Qam64; rate = R56; depth = D3 }; b = Some (record { segments = 7; modulation = Qpsk; rate = R12; depth = D1 }); c = None })

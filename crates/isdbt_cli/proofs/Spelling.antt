@@ -1,6 +1,6 @@
 -- The words of commands: what may follow the words that were read.
-use Rattle.std.proofs.Common.{◌≡◌, ◌≢◌, ℕ, Bool, true, false, List, [], ◌∷◌, ◌++◌, take, None, Some, refl, sym, ap, ◌∙◌, subst, arith, append_assoc, lit≤, inl, inr}
-use Rattle.std.specs.Prelude.{◌⊎◌, codes, is_some, if◌then◌else◌}
+use Rattle.std.proofs.Common.{◌≡◌, ◌≢◌, ℕ, Bool, true, false, List, [], ◌∷◌, ◌++◌, take, None, Some, refl, sym, ap, ◌∙◌, subst, arith, append_assoc, lit≤}
+use Rattle.std.specs.Prelude.{codes, is_some, if◌then◌else◌}
 use Rattle.std.specs.Prelude.{option_map, MatchResult, Result, Ok, Err}
 use Rattle.isdbt_cli.specs.declared.command.Command.{Command as Parsed}
 use Rattle.std.specs.Borrow.{Bor}
@@ -16,7 +16,7 @@ use Rattle.isdbt_base.specs.declared.kinds.Rate.TheVariants.{R12}
 use Rattle.isdbt_base.specs.declared.kinds.DepthCode.TheVariants.{D0}
 use Rattle.isdbt_base.specs.Parameters.{Parameters, IsAccepted}
 use Rattle.isdbt_base.specs.Plans.{Transmission, Schedule, at_frame, at_from}
-use Rattle.isdbt_cli.specs.CommandLines.{Word, mode_word, guard_word, setting_word, transmission_words, plan_words, IsSteady, other_input_words, IsName, IsNameIfGiven, Command, remux, code, words_of, Spells, IsFaultAt}
+use Rattle.isdbt_cli.specs.CommandLines.{Word, mode_word, guard_word, setting_word, transmission_words, plan_words, IsSteady, other_input_words, IsName, IsNameIfGiven, Command, remux, code, receive, words_of, Spells, IsFaultAt}
 use Rattle.isdbt_cli.specs.Parsing.{Unread, BeginsWith, IsAny, IsStuck, Reads, Follows, named, command_of}
 use Rattle.isdbt_cli.proofs.Stuck.{stuck_behind, reads_none, AnyCommand, fault_at}
 use Rattle.isdbt_cli.proofs.SettingWords.{setting_word-injective}
@@ -145,9 +145,19 @@ pub words_of-code : (p : Schedule) (name : Word) → words_of (code p name) ≡ 
 unfolding words_of
 words_of-code p name = refl
 
--- the two commands differ in their first word
+pub words_of-receive : (mode : Mode) (guard : Guard) (name : Word) → words_of (receive mode guard name) ≡ codes "receive" ∷ mode_word mode ∷ guard_word guard ∷ (codes "IN=" ++ name) ∷ []
+unfolding words_of
+words_of-receive mode guard name = refl
+
+-- the commands differ in their first word
 pub remux_or_code : codes "remux" ≢ codes "code"
 remux_or_code e = absurd (let bad : true ≡ false = ap (bytes_eq (codes "remux")) e in cc)
+
+pub remux_or_receive : codes "remux" ≢ codes "receive"
+remux_or_receive e = absurd (let bad : true ≡ false = ap (bytes_eq (codes "remux")) e in cc)
+
+pub code_or_receive : codes "code" ≢ codes "receive"
+code_or_receive e = absurd (let bad : true ≡ false = ap (bytes_eq (codes "code")) e in cc)
 
 pub follows : (t : Transmission) (words : List Word) → IsAccepted t.setting → NamesOf t.setting words → Follows (codes "remux") (transmission_words t ++ words)
 follows t words ok n = (
@@ -160,6 +170,7 @@ follows t words ok n = (
 
 pub followed : (t : Transmission) (words : List Word) → IsAccepted t.setting → Follows (codes "remux") (transmission_words t ++ words) → NamesOf t.setting words
 followed t words ok (code p name, s) = absurd (remux_or_code (same_head (s.spelled ∙ words_of-code p name)))
+followed t words ok (receive mode guard name, s) = absurd (remux_or_receive (same_head (s.spelled ∙ words_of-receive mode guard name)))
 followed t words ok (remux p a b c, s) =
     let same = same_transmission t p.first words (names_words a b c) ok s.command.plan.accepted.first (same_tail (s.spelled ∙ words_of-remux p a b c)) in
     let setting : t.setting ≡ p.first.setting = ap (λ x. x.setting) same.0 in
@@ -189,6 +200,7 @@ follows_plan p ok =
 
 pub plan_follows : (ws : List Word) → Follows (codes "remux") ([] ++ ws) → Sent ws
 plan_follows ws (code p name, s) = absurd (remux_or_code (same_head (s.spelled ∙ words_of-code p name)))
+plan_follows ws (receive mode guard name, s) = absurd (remux_or_receive (same_head (s.spelled ∙ words_of-receive mode guard name)))
 plan_follows ws (remux p a b c, s) = (p, s.command.plan, names_words a b c, same_tail (s.spelled ∙ words_of-remux p a b c))
 
 -- the name of layer A's input
@@ -272,9 +284,21 @@ end_follows t a b c ok used used' ws f =
 -- ---- all words
 
 -- a command's first word
-pub first_word : (c : Command) → (first : Word) × (rest : List Word) × (words_of c ≡ first ∷ rest) × ((first ≡ codes "remux") ⊎ (first ≡ codes "code"))
-first_word (remux p a b c) = (codes "remux", transmission_words p.first ++ names_words a b c, words_of-remux p a b c, inl refl)
-first_word (code p name) = (codes "code", transmission_words p.first ++ ((codes "IN=" ++ name) ∷ []), words_of-code p name, inr refl)
+abbrev pub name_of : Command → Word
+name_of (remux p a b c) = codes "remux"
+name_of (code p name) = codes "code"
+name_of (receive mode guard name) = codes "receive"
+
+pub first_word : (c : Command) → (rest : List Word) × (words_of c ≡ name_of c ∷ rest)
+first_word (remux p a b c) = (transmission_words p.first ++ names_words a b c, words_of-remux p a b c)
+first_word (code p name) = (transmission_words p.first ++ ((codes "IN=" ++ name) ∷ []), words_of-code p name)
+first_word (receive mode guard name) = (mode_word mode ∷ guard_word guard ∷ (codes "IN=" ++ name) ∷ [], words_of-receive mode guard name)
+
+-- another word than a command's is none's first
+no_name : (w : Word) (c : Command) → w ≢ codes "remux" → w ≢ codes "code" → w ≢ codes "receive" → w ≢ name_of c
+no_name w (remux p a b c) not_remux not_code not_receive = not_remux
+no_name w (code p name) not_remux not_code not_receive = not_code
+no_name w (receive mode guard name) not_remux not_code not_receive = not_receive
 
 pub spells : (p : Schedule) (a : Word) (b c : Option Word) (words : List Word) → IsSteady p → IsName a → IsNameIfGiven b × (is_some b ≡ is_some p.first.setting.b) → IsNameIfGiven c × (is_some c ≡ is_some p.first.setting.c)
     → words ≡ read_c p.first a b c → Spells (codes "remux" ∷ words) (remux p a b c)
@@ -345,19 +369,18 @@ no_words u place says = record {
   split = says.1;
   place_is = (let k = says.0 in omega (arith, k));
   goes_on = (_, some_command);
-  stuck = λ tail a heads. (let e = ap (take 1) (sym (a.1.spelled ∙ (first_word a.0).2)) ∙ heads in cc);
+  stuck = λ tail a heads. (let e = ap (take 1) (sym (a.1.spelled ∙ (first_word a.0).1)) ∙ heads in cc);
 }
 
 -- another word than a command's
-pub no_command : (u v : Unread) (w : Word) (place : ℕ) → place ≡ u.place → Reads (w ∷ []) u v → w ≢ codes "remux" → w ≢ codes "code" → IsStuck AnyCommand u place
-no_command u v w place at reads not_remux not_code = record {
+pub no_command : (u v : Unread) (w : Word) (place : ℕ) → place ≡ u.place → Reads (w ∷ []) u v → w ≢ codes "remux" → w ≢ codes "code" → w ≢ codes "receive" → IsStuck AnyCommand u place
+no_command u v w place at reads not_remux not_code not_receive = record {
   front = [];
   rest = u.words;
   split = refl;
   place_is = omega (arith, at);
   goes_on = (_, some_command);
-  stuck = λ tail a heads. (let same : w ≡ (first_word a.0).0 = same_head (ap (take 1) (sym reads.split) ∙ sym heads ∙ ap (take 1) (a.1.spelled ∙ (first_word a.0).2)) in
-      elim ((first_word a.0).3) [ inl remuxes ↦ not_remux (same ∙ remuxes) | inr codings ↦ not_code (same ∙ codings) ]);
+  stuck = λ tail a heads. no_name w a.0 not_remux not_code not_receive (same_head (ap (take 1) (sym reads.split) ∙ sym heads ∙ ap (take 1) (a.1.spelled ∙ (first_word a.0).1)));
 }
 
 -- the rule of a command's first word says it of all words

@@ -9,7 +9,7 @@ use Rattle.coder_core.specs.declared.fault.CodeFault.TheVariants as core
 use Rattle.coder_core.specs.Answers.{Finished, Refused, ReadFailed, WriteFailed}
 use Rattle.isdbt_cli.specs.declared.fault.Outcome.{Outcome}
 use Rattle.isdbt_cli.specs.declared.fault.Outcome.TheVariants.{Done, Fault}
-use Rattle.isdbt_cli.specs.declared.fault.RunFault.TheVariants.{Usage, BadSync, Truncated, HeadMisplaced, NoHead, WrongCount, OpenFault, ReadFault, WriteFault, TooLong, NoMemory}
+use Rattle.isdbt_cli.specs.declared.fault.RunFault.TheVariants.{Usage, BadSync, Truncated, HeadMisplaced, NoHead, WrongCount, BadTmcc, Unannounced, NotPartial, OpenFault, ReadFault, WriteFault, TooLong, NoMemory}
 use Rattle.isdbt_cli.specs.CommandLines.{Word}
 use Rattle.isdbt_cli.specs.FrameLimit.{frame_limit}
 
@@ -22,6 +22,9 @@ CodeAnswer p input before after left (Fault (Truncated seat over)) = Refused p i
 CodeAnswer p input before after left (Fault (HeadMisplaced frame slot)) = Refused p input frame_limit (core.HeadMisplaced frame slot) before after
 CodeAnswer p input before after left (Fault NoHead) = Refused p input frame_limit core.NoHead before after
 CodeAnswer p input before after left (Fault (WrongCount frame layer found)) = Refused p input frame_limit (core.WrongCount frame layer found) before after
+CodeAnswer p input before after left (Fault (BadTmcc frame reason)) = ⊥
+CodeAnswer p input before after left (Fault (Unannounced frame)) = ⊥
+CodeAnswer p input before after left (Fault (NotPartial frame)) = ⊥
 CodeAnswer p input before after left (Fault (OpenFault seat)) = after ≡ before
 CodeAnswer p input before after left (Fault (ReadFault seat)) = ReadFailed p input frame_limit before after left
 CodeAnswer p input before after left (Fault WriteFault) = WriteFailed p input frame_limit before after left
@@ -31,6 +34,9 @@ CodeAnswer p input before after left (Fault NoMemory) = (after ≡ before) × (l
 -- when each answer to a coding may come, by the name of its input
 abbrev pub CodeCause : Word → (Cause → ℕ) → (Cause → ℕ) → ℕ → ℕ → Outcome → Type 0
 CodeCause name shelf shelf' sink sink' (Fault (Usage word)) = ⊥
+CodeCause name shelf shelf' sink sink' (Fault (BadTmcc frame reason)) = ⊥
+CodeCause name shelf shelf' sink sink' (Fault (Unannounced frame)) = ⊥
+CodeCause name shelf shelf' sink sink' (Fault (NotPartial frame)) = ⊥
 CodeCause name shelf shelf' sink sink' (Fault (OpenFault seat)) = (seat ≡ seats.In) × Rose (shelf (Opening seats.In name)) (shelf' (Opening seats.In name)) × (sink' ≡ sink)
 CodeCause name shelf shelf' sink sink' (Fault (ReadFault seat)) = (seat ≡ seats.In) × Rose (shelf (Reading seats.In)) (shelf' (Reading seats.In)) × (sink' ≡ sink)
 CodeCause name shelf shelf' sink sink' (Fault WriteFault) = (shelf' ≡ shelf) × Rose sink sink'
@@ -41,7 +47,7 @@ pub record IsLoneSeat (is_open : Seat → Bool) : Type 0 where
   pub lone : is_open seats.In ≡ true
   pub others : (seat : Seat) → seat ≢ seats.In → is_open seat ≡ false
 
--- which seats are open after each answer to a coding
+-- which seats are open after each answer to a command with a lone input
 abbrev pub CodeSeats : (Seat → Bool) → Outcome → Type 0
 CodeSeats is_open (Fault (OpenFault seat)) = (any : Seat) → is_open any ≡ false
 CodeSeats is_open outcome = IsLoneSeat is_open

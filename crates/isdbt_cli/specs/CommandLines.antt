@@ -90,15 +90,17 @@ IsNameIfGiven (Some name) = IsName name
 
 -- ---- commands
 
--- remux: a plan, and the names of the inputs of layers A, B and C; code: a plan, and the name of its input
+-- remux: a plan, and the names of the inputs of layers A, B and C; code: a plan, and the name of its input; receive: a mode and a guard interval, and the name of its input
 pub data Command : Type 0 where
   remux : Schedule → Word → Option Word → Option Word → Command
   code : Schedule → Word → Command
+  receive : Mode → Guard → Word → Command
 
 -- the words of a command
 unfoldable pub words_of : Command → List Word
 words_of (remux p a b c) = codes "remux" ∷ plan_words p ++ input_word (codes "A") a ∷ other_input_words (codes "B") b ++ other_input_words (codes "C") c
 words_of (code p name) = codes "code" ∷ plan_words p ++ input_word (codes "IN") name ∷ []
+words_of (receive mode guard name) = codes "receive" ∷ mode_word mode ∷ guard_word guard ∷ input_word (codes "IN") name ∷ []
 
 -- the plan is accepted and has no switch
 pub record IsSteady (p : Schedule) : Type 0 where
@@ -122,6 +124,7 @@ pub record IsCode (p : Schedule) (name : Word) : Type 0 where
 abbrev pub IsCommand : Command → Type 0
 IsCommand (remux p a b c) = IsRemux p a b c
 IsCommand (code p name) = IsCode p name
+IsCommand (receive mode guard name) = IsName name
 
 -- the words are those of an accepted command
 pub record Spells (words : List Word) (c : Command) : Type 0 where

@@ -6,6 +6,8 @@ use Rattle.isdbt_cli.specs.declared.fault.RunFault.{RunFault}
 use Rattle.isdbt_cli.specs.declared.fault.RunFault.TheVariants as run
 use Rattle.coder_core.specs.declared.fault.CodeFault.{CodeFault}
 use Rattle.coder_core.specs.declared.fault.CodeFault.TheVariants as code
+use Rattle.seg_receiver.specs.declared.fault.ReceiveFault.{ReceiveFault}
+use Rattle.seg_receiver.specs.declared.fault.ReceiveFault.TheVariants as receive
 use Rattle.remux_core.specs.declared.fault.RemuxFault.{RemuxFault}
 use Rattle.remux_core.specs.declared.fault.RemuxFault.TheVariants.{BadSync, Truncated, ReadFault, WriteFault, TooLong, NoMemory}
 
@@ -16,6 +18,9 @@ number_of (run.Truncated seat over) = 3
 number_of (run.HeadMisplaced frame slot) = 4
 number_of run.NoHead = 5
 number_of (run.WrongCount frame layer found) = 6
+number_of (run.BadTmcc frame reason) = 7
+number_of (run.Unannounced frame) = 8
+number_of (run.NotPartial frame) = 9
 number_of (run.OpenFault seat) = 10
 number_of (run.ReadFault seat) = 11
 number_of run.WriteFault = 12
@@ -44,3 +49,13 @@ run_fault_of_code (code.ReadFault seat) = run.ReadFault seat
 run_fault_of_code code.WriteFault = run.WriteFault
 run_fault_of_code code.TooLong = run.TooLong
 run_fault_of_code code.NoMemory = run.NoMemory
+
+abbrev pub run_fault_of_receive : ReceiveFault → RunFault
+run_fault_of_receive (receive.Truncated seat over) = run.Truncated seat over
+run_fault_of_receive (receive.BadTmcc frame reason) = run.BadTmcc frame reason
+run_fault_of_receive (receive.Unannounced frame) = run.Unannounced frame
+run_fault_of_receive (receive.NotPartial frame) = run.NotPartial frame
+run_fault_of_receive (receive.ReadFault seat) = run.ReadFault seat
+run_fault_of_receive receive.WriteFault = run.WriteFault
+run_fault_of_receive receive.TooLong = run.TooLong
+run_fault_of_receive receive.NoMemory = run.NoMemory

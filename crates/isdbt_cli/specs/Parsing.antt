@@ -5,8 +5,8 @@ use Rattle.isdbt_base.specs.declared.kinds.Mode.{Mode}
 use Rattle.isdbt_base.specs.LayerParameters.{LayerParameters}
 use Rattle.isdbt_base.specs.Parameters.{HasSegmentsIfUsed, HasNoGap}
 use Rattle.isdbt_cli.specs.declared.command.Command.{Command as Parsed}
-use Rattle.isdbt_cli.specs.declared.command.Command.TheVariants.{Remux, Code}
-use Rattle.isdbt_cli.specs.CommandLines.{Word, other_layer_text, Command, remux, code, Spells}
+use Rattle.isdbt_cli.specs.declared.command.Command.TheVariants.{Remux, Code, Receive}
+use Rattle.isdbt_cli.specs.CommandLines.{Word, other_layer_text, Command, remux, code, receive, Spells}
 
 -- ---- the parts of a text
 
@@ -69,6 +69,7 @@ Follows first words = (c : Command) × Spells (first ∷ words) c
 abbrev pub command_of : Parsed → Command
 command_of (Remux plan a b c) = remux plan a.now (option_map (λ x. x.now) b) (option_map (λ x. x.now) c)
 command_of (Code plan name) = code plan name.now
+command_of (Receive mode guard name) = receive mode guard name.now
 
 -- a named input, if it is given: the seat's text and the name
 abbrev pub named : Word → Option Word → List Word

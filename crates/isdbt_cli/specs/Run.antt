@@ -12,10 +12,11 @@ use Rattle.remux_core.specs.Refusals.{seat_of}
 use Rattle.remux_core.specs.Answers.{IsUsed, place_of, Tells, Finished, Refused, ReadFailed, WriteFailed}
 use Rattle.isdbt_cli.specs.declared.fault.Outcome.{Outcome}
 use Rattle.isdbt_cli.specs.declared.fault.Outcome.TheVariants.{Done, Fault}
-use Rattle.isdbt_cli.specs.declared.fault.RunFault.TheVariants.{Usage, BadSync, Truncated, HeadMisplaced, NoHead, WrongCount, OpenFault, ReadFault, WriteFault, TooLong, NoMemory}
+use Rattle.isdbt_cli.specs.declared.fault.RunFault.TheVariants.{Usage, BadSync, Truncated, HeadMisplaced, NoHead, WrongCount, BadTmcc, Unannounced, NotPartial, OpenFault, ReadFault, WriteFault, TooLong, NoMemory}
 use Rattle.isdbt_cli.specs.FrameLimit.{frame_limit}
 use Rattle.isdbt_cli.specs.CodeRun.{CodeAnswer, CodeCause, CodeSeats}
-use Rattle.isdbt_cli.specs.CommandLines.{Word, Command, remux, code, Spells, IsFaultAt}
+use Rattle.isdbt_cli.specs.ReceiveRun.{ReceiveAnswer, ReceiveCause}
+use Rattle.isdbt_cli.specs.CommandLines.{Word, Command, remux, code, receive, Spells, IsFaultAt}
 
 -- ---- inputs
 
@@ -60,6 +61,7 @@ SeatsAfter name is_open outcome = AreSeated name is_open
 abbrev pub SeatsOf : Command → (Seat → Bool) → Outcome → Type 0
 SeatsOf (remux p a b c) is_open outcome = SeatsAfter (names_of a b c) is_open outcome
 SeatsOf (code p name) is_open outcome = CodeSeats is_open outcome
+SeatsOf (receive mode guard name) is_open outcome = CodeSeats is_open outcome
 
 -- ---- answers
 
@@ -72,6 +74,9 @@ RunAnswer p input before after left (Fault (Truncated seat over)) = Refused p in
 RunAnswer p input before after left (Fault (HeadMisplaced frame slot)) = ⊥
 RunAnswer p input before after left (Fault NoHead) = ⊥
 RunAnswer p input before after left (Fault (WrongCount frame layer found)) = ⊥
+RunAnswer p input before after left (Fault (BadTmcc frame reason)) = ⊥
+RunAnswer p input before after left (Fault (Unannounced frame)) = ⊥
+RunAnswer p input before after left (Fault (NotPartial frame)) = ⊥
 RunAnswer p input before after left (Fault (OpenFault seat)) = after ≡ before
 RunAnswer p input before after left (Fault (ReadFault seat)) = ReadFailed p input frame_limit before after left seat
 RunAnswer p input before after left (Fault WriteFault) = WriteFailed p input frame_limit before after left
@@ -82,6 +87,7 @@ RunAnswer p input before after left (Fault NoMemory) = (after ≡ before) × Tel
 abbrev pub AnswerOf : Command → (Word → Option (List ℕ)) → Option (List ℕ) → Option (List ℕ) → (Seat → Option (List ℕ)) → Outcome → Type 0
 AnswerOf (remux p a b c) holds before after left outcome = (input : Layer → List ℕ) → Hold holds (names_of a b c) input → RunAnswer p input before after left outcome
 AnswerOf (code p name) holds before after left outcome = (input : List ℕ) → holds name ≡ Some input → CodeAnswer p input before after (left seats.In) outcome
+AnswerOf (receive mode guard name) holds before after left outcome = (stream : List ℕ) → holds name ≡ Some stream → ReceiveAnswer mode guard stream before after (left seats.In) outcome
 
 -- ---- causes
 
@@ -99,6 +105,9 @@ CommandCause p name shelf shelf' sink sink' (Fault (Usage word)) = ⊥
 CommandCause p name shelf shelf' sink sink' (Fault (HeadMisplaced frame slot)) = ⊥
 CommandCause p name shelf shelf' sink sink' (Fault NoHead) = ⊥
 CommandCause p name shelf shelf' sink sink' (Fault (WrongCount frame layer found)) = ⊥
+CommandCause p name shelf shelf' sink sink' (Fault (BadTmcc frame reason)) = ⊥
+CommandCause p name shelf shelf' sink sink' (Fault (Unannounced frame)) = ⊥
+CommandCause p name shelf shelf' sink sink' (Fault (NotPartial frame)) = ⊥
 CommandCause p name shelf shelf' sink sink' (Fault (OpenFault seat)) = OpenFailed name shelf shelf' seat × (sink' ≡ sink)
 CommandCause p name shelf shelf' sink sink' (Fault (ReadFault seat)) = ((x : Layer) × IsUsed p x × (seat ≡ seat_of x)) × Rose (shelf (Reading seat)) (shelf' (Reading seat)) × (sink' ≡ sink)
 CommandCause p name shelf shelf' sink sink' (Fault WriteFault) = (shelf' ≡ shelf) × Rose sink sink'
@@ -107,6 +116,7 @@ CommandCause p name shelf shelf' sink sink' outcome = (shelf' ≡ shelf) × (sin
 abbrev pub CauseOf : Command → (Cause → ℕ) → (Cause → ℕ) → ℕ → ℕ → Outcome → Type 0
 CauseOf (remux p a b c) shelf shelf' sink sink' outcome = CommandCause p (names_of a b c) shelf shelf' sink sink' outcome
 CauseOf (code p name) shelf shelf' sink sink' outcome = CodeCause name shelf shelf' sink sink' outcome
+CauseOf (receive mode guard name) shelf shelf' sink sink' outcome = ReceiveCause name shelf shelf' sink sink' outcome
 
 -- usage comes where the words have a fault, and each other answer where they are a command and it may come
 abbrev pub RunCause : List Word → (Cause → ℕ) → (Cause → ℕ) → ℕ → ℕ → Outcome → Type 0

@@ -1,6 +1,6 @@
 //! What a command line asks for.
 
-use isdbt_base::Plan;
+use isdbt_base::{Guard, Mode, Plan};
 
 /// A command, as its words say it.
 #[derive(Debug, Drop)]
@@ -15,6 +15,12 @@ pub enum Command<'a> {
     /// Codes the broadcast packets of the input of this name.
     Code {
         plan: Plan,
+        name: &'a str,
+    },
+    /// Receives the cells of the input of this name, which are of this mode and guard interval.
+    Receive {
+        mode: Mode,
+        guard: Guard,
         name: &'a str,
     },
 }

@@ -6,10 +6,13 @@ use coder_core::CodeFault;
 use edge_io::Seat;
 use isdbt_base::Layer;
 use remux_core::RemuxFault;
+use seg_receiver::ReceiveFault;
 use thiserror::Error;
+use tmcc_word::TmccFault;
 
 /// Why a command ended early. The frames before the refused one are written whole, and nothing else; after a write fault a
-/// front part of the output is written. Frames are those of the output; those of a coding count from the first frame head.
+/// front part of the output is written. Frames are those of the output; those of a coding count from the first frame head,
+/// and those of a receiving are those of the cells too.
 #[derive(Clone, Copy, Debug, PartialEq, Eq, Error)]
 pub enum RunFault {
     /// The words are not a command: no command begins with words 0 to `word`, or the words are too few.
@@ -23,7 +26,7 @@ pub enum RunFault {
         seat: Seat,
         packet: u64,
     },
-    /// The seat's input ends `over` bytes into a packet, or into a frame of broadcast packets.
+    /// The seat's input ends `over` bytes into a packet, or into a frame of broadcast packets or of cells.
     #[error("the input ends {over} bytes into a packet or frame")]
     Truncated {
         seat: Seat,
@@ -44,6 +47,22 @@ pub enum RunFault {
         frame: u32,
         layer: Layer,
         found: u32,
+    },
+    /// The TMCC word of a frame is refused, or its sync word is that of the frame before.
+    #[error("bad TMCC word in frame {frame}")]
+    BadTmcc {
+        frame: u32,
+        reason: TmccFault,
+    },
+    /// The setting of a frame is another than the word of the frame before lets expect.
+    #[error("another setting than announced in frame {frame}")]
+    Unannounced {
+        frame: u32,
+    },
+    /// Partial reception is asked for, and the word of a frame has its flag clear.
+    #[error("no partial reception in frame {frame}")]
+    NotPartial {
+        frame: u32,
     },
     /// The seat's input can't be opened.
     #[error("an input can't be opened")]
@@ -84,6 +103,9 @@ impl Outcome {
             Outcome::Fault(RunFault::HeadMisplaced { .. }) => 4,
             Outcome::Fault(RunFault::NoHead) => 5,
             Outcome::Fault(RunFault::WrongCount { .. }) => 6,
+            Outcome::Fault(RunFault::BadTmcc { .. }) => 7,
+            Outcome::Fault(RunFault::Unannounced { .. }) => 8,
+            Outcome::Fault(RunFault::NotPartial { .. }) => 9,
             Outcome::Fault(RunFault::OpenFault(_)) => 10,
             Outcome::Fault(RunFault::ReadFault(_)) => 11,
             Outcome::Fault(RunFault::WriteFault) => 12,
@@ -136,6 +158,26 @@ impl From<CodeFault> for RunFault {
             CodeFault::WriteFault => RunFault::WriteFault,
             CodeFault::TooLong => RunFault::TooLong,
             CodeFault::NoMemory => RunFault::NoMemory,
+        }
+    }
+}
+
+impl From<ReceiveFault> for RunFault {
+    ghost use Rattle.isdbt_cli.specs.Faults.{run_fault_of_receive};
+    ghost use Rattle.std.specs.Prelude.{◌≡◌};
+
+    ghost from_gives = { λ fault e. e ≡ run_fault_of_receive fault };
+
+    fn from(fault: ReceiveFault) -> RunFault {
+        match fault {
+            ReceiveFault::Truncated { seat, over } => RunFault::Truncated { seat, over },
+            ReceiveFault::BadTmcc { frame, reason } => RunFault::BadTmcc { frame, reason },
+            ReceiveFault::Unannounced { frame } => RunFault::Unannounced { frame },
+            ReceiveFault::NotPartial { frame } => RunFault::NotPartial { frame },
+            ReceiveFault::ReadFault(seat) => RunFault::ReadFault(seat),
+            ReceiveFault::WriteFault => RunFault::WriteFault,
+            ReceiveFault::TooLong => RunFault::TooLong,
+            ReceiveFault::NoMemory => RunFault::NoMemory,
         }
     }
 }

@@ -23,6 +23,7 @@ pub fn any_command(list: &[String]) -> Result<Command<'_>, u64>
     match words.word()? {
         "remux" => remux(&mut words),
         "code" => code(&mut words),
+        "receive" => receive(&mut words),
         _ => Err(0),
     }
 }
@@ -50,6 +51,22 @@ fn code<'a>(words: &mut Cursor<'a>) -> Result<Command<'a>, u64>
     let name = name(words, "IN=")?;
     words.end()?;
     Ok(Command::Code { plan, name })
+}
+
+/// The words behind `receive`: a mode, a guard interval and the name of its input.
+fn receive<'a>(words: &mut Cursor<'a>) -> Result<Command<'a>, u64>
+    ensures { MatchResult result (λ c. Spells (codes "receive" ∷ words.old.words) (command_of c))
+        (λ place. IsStuck (Follows (codes "receive")) words.old place) }
+{
+    let mode = mode(words)?;
+    let guard = guard(words)?;
+    let input = name(words, "IN=")?;
+    words.end()?;
+    Ok(Command::Receive {
+        mode,
+        guard,
+        name: input,
+    })
 }
 
 /// A plan with no switch.

@@ -2,13 +2,14 @@
 
 ghost use Rattle.std.specs.Prelude.{◌≡◌, ◌+◌, ◌≤◌, ◌∷◌, [], ◌++◌, length, codes, decimal};
 ghost use Rattle.arrayvec.specs.ArrayString.{array_string_len};
-ghost use Rattle.isdbt_cli.specs.Lines.{seat_text, layer_letter, line_of, IsTold};
+ghost use Rattle.isdbt_cli.specs.Lines.{seat_text, layer_letter, reason_text, line_of, IsTold};
 
 use crate::fault::{Outcome, RunFault};
 use arrayvec::ArrayString;
 use edge_io::{Failed, Seat, Sink, write_whole};
 use isdbt_base::Layer;
 use itoa::Buffer;
+use tmcc_word::TmccFault;
 
 /// A line with its line feed.
 type Line = ArrayString<112>;
@@ -119,6 +120,50 @@ fn count_line(text: &str, frame: u32, layer: Layer, found: u32) -> Line
     line
 }
 
+/// A text, a number and a text.
+fn word_line(text: &str, frame: u32, behind: &str) -> Line
+    requires text { length text.now ≤ 40 }
+    requires behind { length behind.now ≤ 20 }
+    ensures { result.bytes ≡ text.now ++ decimal frame ++ behind.now ++ 10 ∷ [] }
+{
+    let mut line = Line::new();
+    line.push_str(text);
+    line.push_str(Buffer::new().format(frame));
+    line.push_str(behind);
+    line.push('\n');
+    line
+}
+
+/// A text, a number, a text and the letter of a layer.
+fn letter_line(text: &str, frame: u32, middle: &str, layer: Layer) -> Line
+    requires text { length text.now ≤ 40 }
+    requires middle { length middle.now ≤ 10 }
+    ensures { result.bytes ≡ text.now ++ decimal frame ++ middle.now ++ layer_letter layer ++ 10 ∷ [] }
+{
+    let mut line = Line::new();
+    line.push_str(text);
+    line.push_str(Buffer::new().format(frame));
+    line.push_str(middle);
+    line.push_str(layer_letter(layer));
+    line.push('\n');
+    line
+}
+
+/// A text, a number, a blank and why a TMCC word is refused.
+fn reason_line(text: &str, frame: u32, reason: TmccFault) -> Line
+    requires { length text.now ≤ 40 }
+    ensures { result.bytes ≡ text.now ++ decimal frame ++ codes " " ++ reason_text reason ++ 10 ∷ [] }
+{
+    match reason {
+        TmccFault::Sync => word_line(text, frame, " sync"),
+        TmccFault::SegmentType => word_line(text, frame, " segment type"),
+        TmccFault::Parity => word_line(text, frame, " parity"),
+        TmccFault::System => word_line(text, frame, " system"),
+        TmccFault::LayerField(layer) => letter_line(text, frame, " layer ", layer),
+        TmccFault::Segments(sum) => slot_line(text, frame, " segments ", sum),
+    }
+}
+
 /// The line of an outcome: a fault's, or nothing where the command is done.
 fn line_of(outcome: &Outcome) -> Line
     ensures { result.bytes ≡ line_of outcome.now }
@@ -152,6 +197,15 @@ fn line_of(outcome: &Outcome) -> Line
             layer,
             found,
         } => count_line("isdbt: 6 wrong count: frame ", frame, layer, found),
+        RunFault::BadTmcc { frame, reason } => reason_line("isdbt: 7 tmcc: frame ", frame, reason),
+        RunFault::Unannounced { frame } => number_line(
+            "isdbt: 8 unannounced setting: frame ",
+            u64::from(frame),
+        ),
+        RunFault::NotPartial { frame } => number_line(
+            "isdbt: 9 no partial reception: frame ",
+            u64::from(frame),
+        ),
         RunFault::OpenFault(seat) => seat_line("isdbt: 10 cannot open: ", seat),
         RunFault::ReadFault(seat) => seat_line("isdbt: 11 read fault: ", seat),
         RunFault::WriteFault => text_line("isdbt: 12 write fault"),

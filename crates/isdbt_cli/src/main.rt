@@ -1,5 +1,10 @@
 //! The program `isdbt`: commands of the ISDB-T transmission chain at the shell.
 //!
+//! - `remux MODE GUARD SETTING A=NAME [B=NAME [C=NAME]]` makes broadcast packets of the layers' transport packets.
+//! - `code MODE GUARD SETTING IN=NAME` makes cells of broadcast packets.
+//! - `receive MODE GUARD IN=NAME` makes broadcast packets of cells, each layer's packets put off by its delay. The setting
+//!   it reads from the TMCC words of the frames.
+//!
 //! It writes its product to standard output and ends with the status of its [`fault::Outcome`].
 #![tactic(auto)]
 

@@ -1,16 +1,26 @@
 //! The top call.
 
-ghost use Rattle.std.specs.Prelude.{◌≡◌, ℕ, List, ◌↔◌, false, None, Some, option_map};
+ghost use Rattle.std.specs.Prelude.{◌≡◌, ℕ, ◌≤◌, List, ◌↔◌, false, None, Some, option_map};
 ghost use Rattle.std.specs.declared.option.Option.{Option as Maybe};
 ghost use Rattle.isdbt_base.specs.declared.kinds.Layer.{Layer as Which};
-ghost use Rattle.isdbt_base.specs.Plans.{Schedule};
+ghost use Rattle.isdbt_base.specs.declared.kinds.Mode.{Mode as SomeMode};
+ghost use Rattle.isdbt_base.specs.declared.kinds.Guard.{Guard as SomeGuard};
+ghost use Rattle.isdbt_base.specs.Plans.{Schedule, IsPlan};
+ghost use Rattle.isdbt_base.specs.Frames.{FramePackets};
+ghost use Rattle.isdbt_base.specs.Outcome.{product};
+ghost use Rattle.gf_rs.specs.Codewords.{IsBytes};
 ghost use Rattle.edge_io.specs.declared.shelf.Seat.{Seat as Place};
 ghost use Rattle.remux_core.specs.Parts.{IsGood};
 ghost use Rattle.remux_core.specs.Refusals.{refusal};
 ghost use Rattle.edge_io.specs.declared.shelf.Seat.TheVariants as seats;
 ghost use Rattle.coder_core.specs.CodeRefusals.{code_refusal};
+ghost use Rattle.coder_core.specs.SentCells.{frame_cells};
+ghost use Rattle.seg_receiver.specs.Delivered.{HasMode, ArePackets, IsNear};
+ghost use Rattle.seg_receiver.specs.ReceiveRefusals.{receive_refusal};
+ghost use Rattle.isdbt_cli.specs.Chain.{IsChain};
 ghost use Rattle.isdbt_cli.specs.CodeRun.{CodeAnswer, CodeCause, CodeSeats, NothingRoseOf};
-ghost use Rattle.isdbt_cli.specs.CommandLines.{Word, remux, code, IsRemux, IsCode, IsCommand, Spells, IsFaultAt};
+ghost use Rattle.isdbt_cli.specs.ReceiveRun.{ReceiveAnswer, ReceiveCause, IsDelivery};
+ghost use Rattle.isdbt_cli.specs.CommandLines.{Word, remux, code, receive, IsRemux, IsCode, IsCommand, Spells, IsFaultAt};
 ghost use Rattle.isdbt_cli.specs.Lines.{line_of, IsTold};
 ghost use Rattle.isdbt_cli.specs.Parsing.{command_of};
 ghost use Rattle.isdbt_cli.specs.FrameLimit.{frame_limit};
@@ -23,8 +33,9 @@ use crate::lines::tell;
 use crate::words::Words;
 use coder_core::code;
 use edge_io::{Failed, Seat, Shelf, Sink};
-use isdbt_base::Plan;
+use isdbt_base::{Guard, Mode, Plan};
 use remux_core::remux;
+use seg_receiver::receive;
 use std::alloc::Global;
 
 /// The most frames of a command.
@@ -83,6 +94,31 @@ fn run_code<H: Shelf, K: Sink>(
     }
 }
 
+/// Receives the cells of the input of this name.
+fn run_receive<H: Shelf, K: Sink>(
+    alloc: Global,
+    mode: Mode,
+    guard: Guard,
+    name: &str,
+    shelf: &mut H,
+    out: &mut K,
+) -> Outcome
+    requires { (seat : Place) → H.is_open shelf.old seat ≡ false }
+    ensures answer { (stream : List ℕ) → H.holds shelf.old name.now ≡ Some stream → ReceiveAnswer mode guard stream (K.written out.old) (K.written out.new) (H.left shelf.new seats.In) result }
+    ensures cause { ReceiveCause name.now (H.faults shelf.old) (H.faults shelf.new) (K.faults out.old) (K.faults out.new) result }
+    ensures seats { CodeSeats (H.is_open shelf.new) result }
+    ensures room { K.room out.new ≡ K.room out.old }
+{
+    match shelf.open(Seat::In, name) {
+        Ok(()) => {}
+        Err(Failed) => return Outcome::Fault(RunFault::OpenFault(Seat::In)),
+    }
+    match receive(alloc, mode, guard, FRAMES, shelf, out) {
+        Ok(frames) => Outcome::Done(frames),
+        Err(fault) => Outcome::Fault(RunFault::from(fault)),
+    }
+}
+
 /// Does what a command says.
 fn run_command<H: Shelf, K: Sink>(
     alloc: Global,
@@ -100,6 +136,7 @@ fn run_command<H: Shelf, K: Sink>(
     match command {
         Command::Remux { plan, a, b, c } => run_remux(alloc, &plan, a, b, c, shelf, out),
         Command::Code { plan, name } => run_code(alloc, &plan, name, shelf, out),
+        Command::Receive { mode, guard, name } => run_receive(alloc, mode, guard, name, shelf, out),
     }
 }
 
@@ -157,6 +194,36 @@ pub fn run<H: Shelf, K: Sink, E: Sink>(
     ensures code_complete { (p : Schedule) (name : Word) (input : List ℕ) → Spells words.now (code p name) → H.holds shelf.old name ≡ Some input
         → NothingRoseOf name (H.faults shelf.old) (H.faults shelf.new) (K.faults out.old) (K.faults out.new)
         → ((f : ℕ) → code_refusal p input frame_limit f ≡ None) → IsDoneOrNoMemory result }
+
+    // What the answer to a receiving says of the stream of cells and of what was written: with Done, what a receiver of this
+    // mode and guard interval gives out for each of its frames, whatever the cells are.
+    ensures receive_answer { (mode : SomeMode) (guard : SomeGuard) (name : Word) (stream : List ℕ) → Spells words.now (receive mode guard name) → H.holds shelf.old name ≡ Some stream
+        → ReceiveAnswer mode guard stream (K.written out.old) (K.written out.new) (H.left shelf.new seats.In) result }
+
+    // Its input is opened, and no other seat.
+    ensures receive_seats { (mode : SomeMode) (guard : SomeGuard) (name : Word) → Spells words.now (receive mode guard name) → CodeSeats (H.is_open shelf.new) result }
+
+    // No frame refused and no fault of the outside: all frames, or no memory.
+    ensures receive_complete { (mode : SomeMode) (guard : SomeGuard) (name : Word) (stream : List ℕ) → Spells words.now (receive mode guard name) → H.holds shelf.old name ≡ Some stream
+        → NothingRoseOf name (H.faults shelf.old) (H.faults shelf.new) (K.faults out.old) (K.faults out.new)
+        → ((f : ℕ) → receive_refusal mode false stream frame_limit f ≡ None) → IsDoneOrNoMemory result }
+
+    // Cells that are near those of a plan and no fault of the outside: the packets of the plan's frames, each put off by its
+    // layer's delay, and no others, or no memory.
+    ensures receive_near { (p : Schedule) (frames : FramePackets) (count : ℕ) (mode : SomeMode) (guard : SomeGuard) (name : Word) (stream : List ℕ) → Spells words.now (receive mode guard name)
+        → H.holds shelf.old name ≡ Some stream → IsPlan p → HasMode mode guard p → ArePackets p frames count → IsNear mode p frames count stream → count ≤ frame_limit
+        → NothingRoseOf name (H.faults shelf.old) (H.faults shelf.new) (K.faults out.old) (K.faults out.new)
+        → IsDelivery p frames count (K.written out.old) (K.written out.new) result }
+
+    // Two facts of the commands, whatever the words are. The cells of a plan, as a coding writes them, are near it.
+    ensures near_cells { (p : Schedule) (frames : FramePackets) (count : ℕ) (mode : SomeMode) (guard : SomeGuard) → IsPlan p → HasMode mode guard p → ArePackets p frames count
+        → IsNear mode p frames count (product (frame_cells p frames) count) }
+
+    // And the commands go one behind another, for inputs of whole packets with their sync bytes: a coding refuses nothing of
+    // what a remultiplexing writes of them, the cells that it writes are near the plan and the multiplexed packets, so that a
+    // receiving delivers these, and each input packet that a frame places is delivered later by its layer's delay.
+    ensures chain { (p : Schedule) (mode : SomeMode) (guard : SomeGuard) (input : Which → List ℕ) (count : ℕ) → IsPlan p → HasMode mode guard p
+        → ((x : Which) → IsGood (input x)) → ((x : Which) → IsBytes (input x)) → count ≤ frame_limit → IsChain p input mode count }
 
     // The rooms of both sinks stay.
     ensures out_room { K.room out.new ≡ K.room out.old }

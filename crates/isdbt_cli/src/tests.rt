@@ -11,9 +11,11 @@ use crate::testing::{marked_packets, words_of};
 use coder_core::CodeFault;
 use edge_io::{FileShelf, MemoryShelf, MemorySink, Seat};
 use isdbt_base::Layer;
+use seg_receiver::ReceiveFault;
 use std::alloc::Global;
 use std::fs;
 use std::test::Fail;
+use tmcc_word::TmccFault;
 
 /// The command with the input `a`.
 const COMMAND: [&str; 5] = ["remux", "1", "1/4", "A:13:qpsk:1/2:0", "A=a"];
@@ -83,13 +85,16 @@ fn run_over(alloc: Global, input: &[u8], out: &mut MemorySink) -> Result<Outcome
 #[test]
 fn usage_at_word_three(rt: HostRuntime) -> Result<(), Fail> {
     let alloc = rt.alloc();
-    let rows: [(&[&str], u64); 15] = [
+    let rows: [(&[&str], u64); 18] = [
         (&["remux", "1", "1/4", "A:1:qpsk:1/2:0", "A=a"], 3),
         (&[], 0),
         (&["remux"], 1),
         (&["REMUX", "1", "1/4", "A:13:qpsk:1/2:0", "A=a"], 0),
         (&["cod", "1", "1/4", "A:13:qpsk:1/2:0", "IN=a"], 0),
         (&["code", "1", "1/4", "A:13:qpsk:1/2:0", "A=a"], 4),
+        (&["receive", "4", "1/4", "IN=a"], 1),
+        (&["receive", "1", "1/4", "A=a"], 3),
+        (&["receive", "1", "1/4", "IN=a", "IN=a"], 4),
         (&["remux", "01", "1/4", "A:13:qpsk:1/2:0", "A=a"], 1),
         (&["remux", "1", "1/3", "A:13:qpsk:1/2:0", "A=a"], 2),
         (&["remux", "1", "1/4", "A:13:qpsk:1/2:0"], 4),
@@ -194,6 +199,90 @@ fn frame_fault_lines(rt: HostRuntime) -> Result<(), Fail> {
             "isdbt: 6 wrong count: frame 16777215 layer C found 4294967295\n",
             6,
         ),
+    ];
+    for (fault, line, status) in rows {
+        let mut err = MemorySink::new(alloc, 100)?;
+        let outcome = Outcome::Fault(RunFault::from(fault));
+        tell(&outcome, &mut err);
+        assert!(rt; err.bytes() == line.as_bytes());
+        assert_eq!(rt; outcome.status(), status);
+    }
+    Ok(())
+}
+
+/// The lines and statuses of faults of frames of cells.
+#[test]
+fn cell_fault_lines(rt: HostRuntime) -> Result<(), Fail> {
+    let alloc = rt.alloc();
+    let frame = 16_777_215;
+    let bad = |reason| ReceiveFault::BadTmcc { frame, reason };
+    let rows = [
+        (
+            bad(TmccFault::Sync),
+            "isdbt: 7 tmcc: frame 16777215 sync\n",
+            7,
+        ),
+        (
+            bad(TmccFault::SegmentType),
+            "isdbt: 7 tmcc: frame 16777215 segment type\n",
+            7,
+        ),
+        (
+            bad(TmccFault::Parity),
+            "isdbt: 7 tmcc: frame 16777215 parity\n",
+            7,
+        ),
+        (
+            bad(TmccFault::System),
+            "isdbt: 7 tmcc: frame 16777215 system\n",
+            7,
+        ),
+        (
+            bad(TmccFault::LayerField(Layer::A)),
+            "isdbt: 7 tmcc: frame 16777215 layer A\n",
+            7,
+        ),
+        (
+            bad(TmccFault::LayerField(Layer::B)),
+            "isdbt: 7 tmcc: frame 16777215 layer B\n",
+            7,
+        ),
+        (
+            bad(TmccFault::LayerField(Layer::C)),
+            "isdbt: 7 tmcc: frame 16777215 layer C\n",
+            7,
+        ),
+        (
+            bad(TmccFault::Segments(4_294_967_295)),
+            "isdbt: 7 tmcc: frame 16777215 segments 4294967295\n",
+            7,
+        ),
+        (
+            ReceiveFault::Unannounced { frame: 0 },
+            "isdbt: 8 unannounced setting: frame 0\n",
+            8,
+        ),
+        (
+            ReceiveFault::NotPartial { frame },
+            "isdbt: 9 no partial reception: frame 16777215\n",
+            9,
+        ),
+        (
+            ReceiveFault::Truncated {
+                seat: Seat::In,
+                over: 509_387,
+            },
+            "isdbt: 3 truncated: input IN over 509387\n",
+            3,
+        ),
+        (
+            ReceiveFault::ReadFault(Seat::In),
+            "isdbt: 11 read fault: IN\n",
+            11,
+        ),
+        (ReceiveFault::WriteFault, "isdbt: 12 write fault\n", 12),
+        (ReceiveFault::TooLong, "isdbt: 13 too long\n", 13),
+        (ReceiveFault::NoMemory, "isdbt: 14 no memory\n", 14),
     ];
     for (fault, line, status) in rows {
         let mut err = MemorySink::new(alloc, 100)?;

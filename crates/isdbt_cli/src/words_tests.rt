@@ -85,6 +85,36 @@ fn places_of_faults_of_code(rt: HostRuntime) -> Result<(), Fail> {
 }
 
 #[test]
+fn places_of_faults_of_receive(rt: HostRuntime) -> Result<(), Fail> {
+    let rows: [(&[&str], u64); 20] = [
+        (&["Receive", "1", "1/4", "IN=x"], 0),
+        (&["receiv", "1", "1/4", "IN=x"], 0),
+        (&["receive "], 0),
+        (&["receive"], 1),
+        (&["receive", "0", "1/4", "IN=x"], 1),
+        (&["receive", "M1", "1/4", "IN=x"], 1),
+        (&["receive", "1/4", "1", "IN=x"], 1),
+        (&["receive", "IN=x"], 1),
+        (&["receive", "1"], 2),
+        (&["receive", "1", "1/2", "IN=x"], 2),
+        (&["receive", "1", "IN=x"], 2),
+        (&["receive", "1", "1/4"], 3),
+        (&["receive", "1", "1/4", "IN="], 3),
+        (&["receive", "1", "1/4", "IN"], 3),
+        (&["receive", "1", "1/4", "x"], 3),
+        (&["receive", "1", "1/4", "A=x"], 3),
+        (&["receive", "1", "1/4", WIDE, "IN=x"], 3),
+        (&["receive", "1", "1/4", "IN=x", ""], 4),
+        (&["receive", "1", "1/4", "IN=x", "IN=x"], 4),
+        (&["code", "1", "1/4", "IN=x"], 3),
+    ];
+    for (list, place) in rows {
+        assert_eq!(rt; place_of(rt.alloc(), list)?, place);
+    }
+    Ok(())
+}
+
+#[test]
 fn settings_of_no_mode(rt: HostRuntime) -> Result<(), Fail> {
     let rows = [
         ("1", "A:1:qpsk:1/2:0"),
@@ -231,6 +261,33 @@ fn coding(rt: HostRuntime) -> Result<(), Fail> {
         assert_eq!(rt; plan.guard(), Guard::G8);
         assert_eq!(rt; plan.at(0).setting, wanted);
         assert!(rt; name == input_name);
+    }
+    Ok(())
+}
+
+#[test]
+fn receiving(rt: HostRuntime) -> Result<(), Fail> {
+    let modes = [("1", Mode::M1), ("2", Mode::M2), ("3", Mode::M3)];
+    let guards = [
+        ("1/4", Guard::G4),
+        ("1/8", Guard::G8),
+        ("1/16", Guard::G16),
+        ("1/32", Guard::G32),
+    ];
+    // The input's word and its name.
+    let inputs = [("IN=x", "x"), ("IN=IN=", "IN="), ("IN=-", "-")];
+    for (mode_word, wanted_mode) in modes {
+        for (guard_word, wanted_guard) in guards {
+            for (input, input_name) in inputs {
+                let words = words_of(rt.alloc(), &["receive", mode_word, guard_word, input])?;
+                let Command::Receive { mode, guard, name } = words.command()? else {
+                    return Err(Fail::from("the words are another command"));
+                };
+                assert_eq!(rt; mode, wanted_mode);
+                assert_eq!(rt; guard, wanted_guard);
+                assert!(rt; name == input_name);
+            }
+        }
     }
     Ok(())
 }

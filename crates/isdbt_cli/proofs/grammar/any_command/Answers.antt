@@ -17,7 +17,11 @@ returns-in-remux c = whole_line (codes "remux") (map string_bytes c.args.list.no
 pub returns-in-code : goal.returns-in-code
 returns-in-code c = whole_line (codes "code") (map string_bytes c.args.list.now) c.new-words.result c.word.new.self c.in_ok-word.field-0.now c.code.result c.new-words.ensures c.in_ok-word.ensures.ok c.in-code.is c.code.ensures
 
+pub returns-in-receive : goal.returns-in-receive
+returns-in-receive c =
+    whole_line (codes "receive") (map string_bytes c.args.list.now) c.new-words.result c.word.new.self c.in_ok-word.field-0.now c.receive.result c.new-words.ensures c.in_ok-word.ensures.ok c.in-receive.is c.receive.ensures
+
 pub returns-in_default : goal.returns-in_default
 returns-in_default c =
     fault_at (map string_bytes c.args.list.now) 0 (subst (λ (u : Unread). IsStuck AnyCommand u 0) c.new-words.ensures
-    (no_command c.new-words.result c.word.new.self c.in_ok-word.field-0.now 0 (subst (λ (u : Unread). 0 ≡ u.place) (sym c.new-words.ensures) refl) c.in_ok-word.ensures.ok c.in_default.not-remux c.in_default.not-code))
+    (no_command c.new-words.result c.word.new.self c.in_ok-word.field-0.now 0 (subst (λ (u : Unread). 0 ≡ u.place) (sym c.new-words.ensures) refl) c.in_ok-word.ensures.ok c.in_default.not-remux c.in_default.not-code c.in_default.not-receive))

@@ -1,8 +1,10 @@
-use Rattle.isdbt_cli.specs.CommandLines.{remux, code}
+use Rattle.isdbt_cli.specs.CommandLines.{remux, code, receive}
 use Rattle.isdbt_cli.specs.Parsing.{command_of}
 use Rattle.isdbt_cli.proofs.OnePlace.{no_place, one_command}
 use Rattle.isdbt_cli.proofs.Outcomes.{ok_usage, fault_usage, same_answer, same_seats, ok_complete, ok_good}
 use Rattle.isdbt_cli.proofs.CodeOutcomes.{ok_complete as code_done}
+use Rattle.isdbt_cli.proofs.ReceiveOutcomes.{ok_complete as receive_done, ok_near}
+use Rattle.isdbt_cli.proofs.Chains.{near_cells, chain}
 use Rattle.isdbt_cli.proofs.run.run.Goals as goal
 
 pub returns-in-Ok-clause-usage : goal.returns-in-Ok-clause-usage
@@ -62,3 +64,46 @@ returns-in-Err-clause-code_seats g c = λ p name spelled. absurd (no_place _ (co
 
 pub returns-in-Err-clause-code_complete : goal.returns-in-Err-clause-code_complete
 returns-in-Err-clause-code_complete g c = λ p name input spelled hold none passed. absurd (no_place _ (code p name) _ spelled c.in-Err.ensures)
+
+pub returns-in-Ok-clause-receive_answer : goal.returns-in-Ok-clause-receive_answer
+returns-in-Ok-clause-receive_answer g c = λ mode guard name stream spelled hold.
+    same_answer (command_of c.in-Ok.command) (receive mode guard name) _ _ _ _ _ (one_command c.args.words.now (command_of c.in-Ok.command) (receive mode guard name) c.in-Ok.ensures spelled) c.run_command-outcome.ensures.answer stream hold
+
+pub returns-in-Ok-clause-receive_seats : goal.returns-in-Ok-clause-receive_seats
+returns-in-Ok-clause-receive_seats g c = λ mode guard name spelled.
+    same_seats (command_of c.in-Ok.command) (receive mode guard name) _ _ (one_command c.args.words.now (command_of c.in-Ok.command) (receive mode guard name) c.in-Ok.ensures spelled) c.run_command-outcome.ensures.seats
+
+pub returns-in-Ok-clause-receive_complete : goal.returns-in-Ok-clause-receive_complete
+returns-in-Ok-clause-receive_complete g c = λ mode guard name stream spelled hold none passed.
+    let same = one_command c.args.words.now (command_of c.in-Ok.command) (receive mode guard name) c.in-Ok.ensures spelled in
+    receive_done (command_of c.in-Ok.command) mode guard name stream _ _ _ _ _ _ _ c.run_command-outcome.result same (same_answer (command_of c.in-Ok.command) (receive mode guard name) _ _ _ _ _ same c.run_command-outcome.ensures.answer stream hold) c.run_command-outcome.ensures.cause none passed
+
+pub returns-in-Ok-clause-receive_near : goal.returns-in-Ok-clause-receive_near
+returns-in-Ok-clause-receive_near g c = λ p frames count mode guard name stream spelled hold plan has packets near few none.
+    let same = one_command c.args.words.now (command_of c.in-Ok.command) (receive mode guard name) c.in-Ok.ensures spelled in
+    ok_near (command_of c.in-Ok.command) mode guard name p frames count stream _ _ _ _ _ _ _ c.run_command-outcome.result same (same_answer (command_of c.in-Ok.command) (receive mode guard name) _ _ _ _ _ same c.run_command-outcome.ensures.answer stream hold)
+    c.run_command-outcome.ensures.cause none plan has packets near few
+
+pub returns-in-Ok-clause-near_cells : goal.returns-in-Ok-clause-near_cells
+returns-in-Ok-clause-near_cells g c = near_cells
+
+pub returns-in-Ok-clause-chain : goal.returns-in-Ok-clause-chain
+returns-in-Ok-clause-chain g c = chain
+
+pub returns-in-Err-clause-receive_answer : goal.returns-in-Err-clause-receive_answer
+returns-in-Err-clause-receive_answer g c = λ mode guard name stream spelled hold. absurd (no_place _ (receive mode guard name) _ spelled c.in-Err.ensures)
+
+pub returns-in-Err-clause-receive_seats : goal.returns-in-Err-clause-receive_seats
+returns-in-Err-clause-receive_seats g c = λ mode guard name spelled. absurd (no_place _ (receive mode guard name) _ spelled c.in-Err.ensures)
+
+pub returns-in-Err-clause-receive_complete : goal.returns-in-Err-clause-receive_complete
+returns-in-Err-clause-receive_complete g c = λ mode guard name stream spelled hold none passed. absurd (no_place _ (receive mode guard name) _ spelled c.in-Err.ensures)
+
+pub returns-in-Err-clause-receive_near : goal.returns-in-Err-clause-receive_near
+returns-in-Err-clause-receive_near g c = λ p frames count mode guard name stream spelled hold plan has packets near few none. absurd (no_place _ (receive mode guard name) _ spelled c.in-Err.ensures)
+
+pub returns-in-Err-clause-near_cells : goal.returns-in-Err-clause-near_cells
+returns-in-Err-clause-near_cells g c = near_cells
+
+pub returns-in-Err-clause-chain : goal.returns-in-Err-clause-chain
+returns-in-Err-clause-chain g c = chain
