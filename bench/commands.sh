@@ -1,5 +1,6 @@
 #!/bin/sh
-# Prints how fast the commands are: frames in a second, and the factor to real time; and the most memory that `code` holds.
+# Prints how fast the commands and their pipes are: frames in a second, and the factor to real time; and the most memory that
+# `code` and `receive` hold.
 # Run by hand; no gate runs it. A frame lasts 204 symbols: 64.26 ms in mode 1 with guard 1/4, 231.336 ms in mode 3 with
 # guard 1/8.
 #
@@ -46,18 +47,39 @@ measure "code, mode 1, QPSK 1/2" 509388 64.26 "$top/isdbt" code 1 1/4 $one IN="$
 measure "code, mode 3, 64QAM 7/8 (the highest rate)" 2036940 231.336 "$top/isdbt" code 3 1/8 $full IN="$folder/full.bts"
 measure "code, mode 3, three layers" 2036940 231.336 "$top/isdbt" code 3 1/8 $three IN="$folder/three.bts"
 
+"$top/isdbt" code 1 1/4 $one IN="$folder/one.bts" | head -c $((509388 * 200)) >"$folder/one.cells"
+"$top/isdbt" code 3 1/8 $full IN="$folder/full.bts" >"$folder/full.cells"
+"$top/isdbt" code 3 1/8 $three IN="$folder/three.bts" >"$folder/three.cells"
+measure "receive, mode 1, QPSK 1/2" 261120 64.26 "$top/isdbt" receive 1 1/4 IN="$folder/one.cells"
+measure "receive, mode 3, 64QAM 7/8 (the highest rate)" 940032 231.336 "$top/isdbt" receive 3 1/8 IN="$folder/full.cells"
+measure "receive, mode 3, three layers" 940032 231.336 "$top/isdbt" receive 3 1/8 IN="$folder/three.cells"
+
 cat >"$folder/pipe" <<END
 #!/bin/sh
 "$top/isdbt" remux 3 1/8 $full A="$folder/part.ts" | "$top/isdbt" code 3 1/8 $full IN=-
 END
-chmod +x "$folder/pipe"
+cat >"$folder/whole" <<END
+#!/bin/sh
+"$folder/pipe" | "$top/isdbt" receive 3 1/8 IN=-
+END
+chmod +x "$folder/pipe" "$folder/whole"
 measure "remux | code, mode 3, 64QAM 7/8" 2036940 231.336 "$folder/pipe"
+measure "remux | code | receive, mode 3, 64QAM 7/8" 940032 231.336 "$folder/whole"
 
-# The most memory, in kilobytes, of a short and of a long run.
-for frames in 4 30; do
-    head -c $((940032 * frames)) "$folder/full.bts" >"$folder/some.bts"
-    "$top/isdbt" code 3 1/8 $full IN="$folder/some.bts" >"$folder/cells" &
+# held WHAT WORD.. prints the most memory that the program holds with these words
+held() {
+    what=$1
+    shift
+    "$top/isdbt" "$@" >"$folder/out" &
     most=0
     while now=$(awk '/VmHWM/ { print $2 }' "/proc/$!/status" 2>/dev/null) && [ -n "$now" ]; do most=$now; done
-    echo "code, mode 3, 64QAM 7/8, $frames frames: $most kB of memory at most"
+    echo "$what: $most kB of memory at most"
+}
+
+# A short and a long run.
+for frames in 4 30; do
+    head -c $((940032 * frames)) "$folder/full.bts" >"$folder/some.bts"
+    head -c $((2036940 * frames)) "$folder/full.cells" >"$folder/some.cells"
+    held "code, mode 3, 64QAM 7/8, $frames frames" code 3 1/8 $full IN="$folder/some.bts"
+    held "receive, mode 3, 64QAM 7/8, $frames frames" receive 3 1/8 IN="$folder/some.cells"
 done
