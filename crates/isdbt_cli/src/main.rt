@@ -28,6 +28,12 @@ mod plain_coding;
 mod plain_tests;
 #[cfg(test)]
 mod quiet_tests;
+#[cfg(test)]
+mod receive_testing;
+#[cfg(test)]
+mod receive_tests;
+#[cfg(test)]
+mod receive_words_tests;
 mod run;
 mod setting_word;
 #[cfg(test)]
