@@ -1,3 +1,4 @@
 pub mod EntryLemmas
+pub mod FrameAnswers
 pub mod Known
 pub mod PlaceLemmas

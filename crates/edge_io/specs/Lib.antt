@@ -1,6 +1,7 @@
 pub mod Causes
 pub mod Entries
 pub mod FileShelf
+pub mod FrameAnswers
 pub mod Known
 pub mod MemoryShelf
 pub mod MemorySink
