@@ -8,13 +8,12 @@ use Rattle.std.proofs.lemmas.Bool.{cases_lt, ne_eqb, eq-eqb, lt-ltb, le-ltb}
 use Rattle.std.proofs.lemmas.List.{drop_all, take_all, append-nil}
 use Rattle.isdbt_base.specs.declared.kinds.Mode.{Mode}
 use Rattle.isdbt_base.specs.Parameters.{Parameters}
-use Rattle.isdbt_base.specs.Outcome.{first_some, ArePassed, product}
+use Rattle.isdbt_base.specs.Outcome.{first_some}
 use Rattle.isdbt_base.specs.Plans.{Schedule, at_frame}
-use Rattle.isdbt_base.proofs.Products.{product-none, product-more}
 use Rattle.edge_io.specs.declared.shelf.Seat.TheVariants as seats
-use Rattle.edge_io.specs.Causes.{Rose, Cause, Reading}
 use Rattle.edge_io.specs.Known.{append_known}
-use Rattle.edge_io.proofs.Known.{append_known_twice}
+use Rattle.edge_io.specs.FrameAnswers.{Passed, Wrote, Refused, WriteFailed, ReadFailed, TookAtMost, Took, Stopped, Finished, LoneAnswer}
+use Rattle.edge_io.proofs.FrameAnswers.{wrote-none, wrote-more, wrote_part, passed-none, passed-more, ended-refused, ended-done}
 use Rattle.coder_core.specs.declared.fault.CodeFault.{CodeFault}
 use Rattle.coder_core.specs.declared.fault.CodeFault.TheVariants.{BadSync, Truncated, HeadMisplaced, NoHead, WrongCount, ReadFault, WriteFault, TooLong, NoMemory}
 use Rattle.coder_core.specs.FrameChecks.{refusal}
@@ -23,15 +22,16 @@ use Rattle.coder_core.specs.SentCells.{epoch_frame_cells, plan_word}
 use Rattle.coder_core.specs.CodeRefusals.{search_refusal, has_byte_of, truncated, frame_refusal, code_refusal, is_there, coded_frame}
 use Rattle.coder_core.specs.Reading.{FilledTo, StoppedBelow}
 use Rattle.coder_core.specs.Coder.{IsFrameOf}
-use Rattle.coder_core.specs.Answers.{IsPlain, Found, Wrote, Passed, Refused, Finished, ReadFailed, WriteFailed, CodeAnswer, CodeCause, RoomAnswer, EndAnswer, EndCause}
+use Rattle.coder_core.specs.Answers.{IsPlain, Found, code_kind, code_command, EndAnswer}
 use Rattle.coder_core.proofs.PlainFrames.{at_frame-plain, plain_slots, slots-plain, packets_before-plain, start-zero, start-more, start-rises, first_some-one, refusal-found, there-found, coded-found}
+use Rattle.coder_core.proofs.CodeStarts.{starts-found, starts-within, starts-next}
 
 -- so many frames were read, found good and written, and the first bytes of the next stand in the buffer
 pub record Progress (p : Schedule) (input : List ℕ) (limit head f held : ℕ) (frame : List ℕ) (left before now : Option (List ℕ)) : Type 0 where
   pub found : first_head input ≡ Some head
   pub searched : search_refusal input ≡ None
-  pub passed : Passed p input limit f
-  pub written : Wrote p input f before now
+  pub passed : Passed (code_command p input limit).frames f
+  pub written : Wrote (code_command p input limit).frames f before now
   pub holds : take held frame ≡ take held (drop (frame_start p head f) input)
   pub within : frame_start p head f + held ≤ length input
   pub left_is : left ≡ Some (drop (frame_start p head f + held) input)
@@ -40,40 +40,12 @@ pub record Progress (p : Schedule) (input : List ℕ) (limit head f held : ℕ) 
 pub record Turn (p : Schedule) (input : List ℕ) (limit head f count : ℕ) (frame : List ℕ) (left before now : Option (List ℕ)) : Type 0 where
   pub found : first_head input ≡ Some head
   pub searched : search_refusal input ≡ None
-  pub passed : Passed p input limit f
-  pub written : Wrote p input f before now
+  pub passed : Passed (code_command p input limit).frames f
+  pub written : Wrote (code_command p input limit).frames f before now
   pub count_is : count ≡ min (204 * plain_slots p) (length input - frame_start p head f)
   pub reached : frame_start p head f ≤ length input
   pub front : take count frame ≡ take count (drop (frame_start p head f) input)
   pub left_is : left ≡ Some (drop (frame_start p head f + count) input)
-
-append_known_nil : (known : Option (List ℕ)) → append_known known [] ≡ known
-append_known_nil None = refl
-append_known_nil (Some bytes) = ap Some (append-nil bytes)
-
-pub wrote-none : (p : Schedule) (input : List ℕ) (before : Option (List ℕ)) → Wrote p input 0 before before
-wrote-none p input before = sym (ap (append_known before) (product-none (coded_frame p input)) ∙ append_known_nil before)
-
-wrote-more : (p : Schedule) (input : List ℕ) (f : ℕ) (before mid after : Option (List ℕ)) → Wrote p input f before mid → after ≡ append_known mid (coded_frame p input f) → Wrote p input (f + 1) before after
-wrote-more p input f before mid after so_far wrote =
-    wrote ∙ ap (λ m. append_known m (coded_frame p input f)) so_far
-    ∙ append_known_twice before (product (coded_frame p input) f) (coded_frame p input f)
-    ∙ ap (append_known before) (sym (product-more (coded_frame p input) f))
-
-wrote_part : (p : Schedule) (input : List ℕ) (f n : ℕ) (before mid after : Option (List ℕ)) → Wrote p input f before mid → after ≡ append_known mid (take n (coded_frame p input f))
-    → after ≡ append_known before (product (coded_frame p input) f ++ take n (coded_frame p input f))
-wrote_part p input f n before mid after so_far wrote =
-    wrote ∙ ap (λ m. append_known m (take n (coded_frame p input f))) so_far ∙ append_known_twice before (product (coded_frame p input) f) (take n (coded_frame p input f))
-
-pub passed-none : (p : Schedule) (input : List ℕ) (limit : ℕ) → Passed p input limit 0
-passed-none p input limit = λ f less. absurd (omega (arith, less))
-
-passed-more : (refusal : ℕ → Option CodeFault) (there : ℕ → Bool) (f : ℕ) → ArePassed refusal there f → refusal f ≡ None → there f ≡ true → ArePassed refusal there (f + 1)
-passed-more refusal there f so_far fine is g less =
-    elim (cases_lt g f) [
-      | inl below ↦ so_far g below
-      | inr above ↦ (let e : f ≡ g = omega (arith, above, less) in subst (λ h. (refusal h ≡ None) × (there h ≡ true)) e (fine, is))
-    ]
 
 -- before the first frame, with the head's packet
 pub begin : (p : Schedule) (input : List ℕ) (limit head : ℕ) (frame : List ℕ) (left before : Option (List ℕ)) → Found input head (take 204 frame) left → Progress p input limit head 0 204 frame left before before
@@ -83,8 +55,8 @@ begin p input limit head frame left before f =
     record {
       found = f.found;
       searched = f.searched;
-      passed = passed-none p input limit;
-      written = wrote-none p input before;
+      passed = passed-none (code_command p input limit).frames;
+      written = wrote-none (code_command p input limit).frames before;
       holds = f.packet_is ∙ ap (λ n. take 204 (drop n input)) (sym start);
       within = (let whole = f.whole in omega (arith, past, whole));
       left_is = f.left_is ∙ ap (λ n. Some (drop n input)) (sym past);
@@ -124,34 +96,29 @@ refusal-none : (p : Schedule) (input : List ℕ) (limit head f : ℕ) → has_by
 refusal-none p input limit head f none = rw none refl
 
 -- the input ends at a frame
-pub finished : (p : Schedule) (input : List ℕ) (limit head f : ℕ) (left before now : Option (List ℕ)) → first_head input ≡ Some head → search_refusal input ≡ None → Passed p input limit f → Wrote p input f before now
-    → length input ≤ frame_start p head f → left ≡ Some [] → Finished p input limit f before now left
+pub finished : (p : Schedule) (input : List ℕ) (limit head f : ℕ) (left before now : Option (List ℕ)) → first_head input ≡ Some head → search_refusal input ≡ None → Passed (code_command p input limit).frames f → Wrote (code_command p input limit).frames f before now
+    → length input ≤ frame_start p head f → left ≡ Some [] → Finished (code_command p input limit) f before now left
 finished p input limit head f left before now found searched passed written le none =
     let gone = not_there p input head f le in
     record {
-      ended = record {
-        outcome = record { before = passed; at = refusal-found p input limit head f found searched ∙ refusal-none p input limit head f gone; done = λ e. there-found p input head f found ∙ gone };
-        written = written;
-      };
+      ended = ended-done (code_command p input limit).frames f before now passed written (refusal-found p input limit head f found searched ∙ refusal-none p input limit head f gone) (there-found p input head f found ∙ gone);
       left_is = none;
     }
 
-pub nothing_came : (p : Schedule) (input : List ℕ) (limit head f : ℕ) (frame : List ℕ) (left before now : Option (List ℕ)) → 0 < plain_slots p → Turn p input limit head f 0 frame left before now → Finished p input limit f before now left
+pub nothing_came : (p : Schedule) (input : List ℕ) (limit head f : ℕ) (frame : List ℕ) (left before now : Option (List ℕ)) → 0 < plain_slots p → Turn p input limit head f 0 frame left before now → Finished (code_command p input limit) f before now left
 nothing_came p input limit head f frame left before now some t =
     let count = t.count_is in
     let le : length input ≤ frame_start p head f = omega (arith, count, some) in
     finished p input limit head f left before now t.found t.searched t.passed t.written le (t.left_is ∙ ap Some (drop_all (frame_start p head f + 0) input (omega (arith, le))))
 
--- frame f is refused so
-refused : (p : Schedule) (input : List ℕ) (limit head f : ℕ) (fault : CodeFault) (before now : Option (List ℕ)) → first_head input ≡ Some head → search_refusal input ≡ None → Passed p input limit f → Wrote p input f before now
-    → frame_refusal p input limit head f ≡ Some fault → Refused p input limit fault before now
-refused p input limit head f fault before now found searched passed written why = (
-  f,
-  record {
-    outcome = record { before = passed; at = refusal-found p input limit head f found searched ∙ why; done = λ e. absurd (cc) };
-    written = written;
-  },
-)
+-- frame f is refused so, and so many bytes were taken
+refused : (p : Schedule) (input : List ℕ) (limit head f taken : ℕ) (fault : CodeFault) (left before now : Option (List ℕ)) → p.switches ≡ [] → first_head input ≡ Some head → search_refusal input ≡ None → Passed (code_command p input limit).frames f → Wrote (code_command p input limit).frames f before now
+    → frame_refusal p input limit head f ≡ Some fault → left ≡ Some (drop taken input) → taken ≤ frame_start p head (f + 1) → Refused (code_command p input limit).frames (TookAtMost (code_command p input limit) left) fault before now
+refused p input limit head f taken fault left before now plain found searched passed written why left_is most = record {
+  frame = f;
+  ended = ended-refused (code_command p input limit).frames f fault before now passed written (refusal-found p input limit head f found searched ∙ why);
+  account = record { taken = taken; left_is = left_is; most = (let e = starts-next p input head f found searched in omega (arith, e, most)) };
+}
 
 -- the parts of a refusal, where a byte of the frame is there
 refusal-parts : (p : Schedule) (input : List ℕ) (limit head f : ℕ) → has_byte_of p input head f ≡ true → frame_refusal p input limit head f ≡
@@ -168,14 +135,16 @@ not_at_limit : (f limit : ℕ) → f < limit → (if f == limit then Some TooLon
 not_at_limit f limit less = rw (ne_eqb f limit (λ e. omega (arith, e, less))) refl
 
 pub cut_off : (p : Schedule) (input : List ℕ) (limit head f count : ℕ) (frame : List ℕ) (left before now : Option (List ℕ)) → IsPlain p → f < limit → 0 < count → count < 204 * plain_slots p → Turn p input limit head f count frame left before now
-    → Refused p input limit (Truncated seats.In count) before now
+    → Refused (code_command p input limit).frames (TookAtMost (code_command p input limit) left) (Truncated seats.In count) before now
 cut_off p input limit head f count frame left before now plain less some short t =
     let counted = t.count_is in
     let slots = slots-plain p f plain.no_switch in
     let over : length input - frame_start p head f ≡ count = omega (arith, counted, short) in
     let cut : truncated p input head f ≡ Some (Truncated seats.In count) = rw (lt-ltb (length input) (frame_start p head f + 204 * slots_at p f) (omega (arith, over, slots, short))) (ap (λ n. Some (Truncated seats.In n)) over) in
-    refused p input limit head f (Truncated seats.In count) before now t.found t.searched t.passed t.written
+    let more = start-more p head f plain.no_switch in
+    refused p input limit head f (frame_start p head f + count) (Truncated seats.In count) left before now plain.no_switch t.found t.searched t.passed t.written
     (refusal-parts p input limit head f (there p input head f (omega (arith, over, some))) ∙ second _ _ _ _ (not_at_limit f limit less) cut)
+    t.left_is (omega (arith, more, short))
 
 -- ---- the frame is whole
 
@@ -202,9 +171,12 @@ refusal-whole p input limit head f count frame left before now plain some less s
     ∙ ap (λ xs. refusal p.first.setting p.first.mode f (head + f * plain_slots p) xs) (sym is)
 
 pub frame_refused : (p : Schedule) (input : List ℕ) (limit head f count : ℕ) (fault : CodeFault) (frame : List ℕ) (left before now : Option (List ℕ)) → IsPlain p → 0 < plain_slots p → f < limit → length frame ≡ 204 * plain_slots p → length frame ≤ count → Turn p input limit head f count frame left before now
-    → refusal p.first.setting p.first.mode f (head + f * plain_slots p) frame ≡ Some fault → Refused p input limit fault before now
+    → refusal p.first.setting p.first.mode f (head + f * plain_slots p) frame ≡ Some fault → Refused (code_command p input limit).frames (TookAtMost (code_command p input limit) left) fault before now
 frame_refused p input limit head f count fault frame left before now plain some less size full t why =
-    refused p input limit head f fault before now t.found t.searched t.passed t.written (refusal-whole p input limit head f count frame left before now plain some less size full t ∙ why)
+    let more = start-more p head f plain.no_switch in
+    let counted = t.count_is in
+    refused p input limit head f (frame_start p head f + count) fault left before now plain.no_switch t.found t.searched t.passed t.written (refusal-whole p input limit head f count frame left before now plain some less size full t ∙ why)
+    t.left_is (omega (arith, more, counted))
 
 -- the packets of the frame are those of the buffer
 pub is_frame : (p : Schedule) (input : List ℕ) (limit head f count : ℕ) (frame : List ℕ) (left before now : Option (List ℕ)) (s : Parameters) (mode : Mode) → IsPlain p → length frame ≡ 204 * plain_slots p → length frame ≤ count → Turn p input limit head f count frame left before now
@@ -214,9 +186,9 @@ is_frame p input limit head f count frame left before now s mode plain size full
 
 -- the first frames, and this one, are passed
 pub passed_frame : (p : Schedule) (input : List ℕ) (limit head f count : ℕ) (frame : List ℕ) (left before now : Option (List ℕ)) → IsPlain p → 0 < plain_slots p → f < limit → length frame ≡ 204 * plain_slots p → length frame ≤ count → Turn p input limit head f count frame left before now
-    → refusal p.first.setting p.first.mode f (head + f * plain_slots p) frame ≡ None → Passed p input limit (f + 1)
+    → refusal p.first.setting p.first.mode f (head + f * plain_slots p) frame ≡ None → Passed (code_command p input limit).frames (f + 1)
 passed_frame p input limit head f count frame left before now plain some less size full t fine =
-    passed-more (code_refusal p input limit) (is_there p input) f t.passed
+    passed-more (code_command p input limit).frames f t.passed
     (refusal-found p input limit head f t.found t.searched ∙ refusal-whole p input limit head f count frame left before now plain some less size full t ∙ fine)
     (there-found p input head f t.found ∙ there p input head f (let counted = t.count_is in omega (arith, counted, size, full, some)))
 
@@ -229,7 +201,7 @@ taken_all p input limit head f count frame left before now plain size full t =
     omega (arith, counted, more, size, full)
 
 pub next : (p : Schedule) (input : List ℕ) (limit head f count : ℕ) (frame : List ℕ) (left before mid after : Option (List ℕ)) → IsPlain p → length frame ≡ 204 * plain_slots p → length frame ≤ count → Turn p input limit head f count frame left before mid
-    → Passed p input limit (f + 1) → after ≡ append_known mid (coded_frame p input f) → Progress p input limit head (f + 1) 0 frame left before after
+    → Passed (code_command p input limit).frames (f + 1) → after ≡ append_known mid (coded_frame p input f) → Progress p input limit head (f + 1) 0 frame left before after
 next p input limit head f count frame left before mid after plain size full t passed wrote =
     let taken = taken_all p input limit head f count frame left before mid plain size full t in
     let counted = t.count_is in
@@ -237,23 +209,21 @@ next p input limit head f count frame left before mid after plain size full t pa
       found = t.found;
       searched = t.searched;
       passed = passed;
-      written = wrote-more p input f before mid after t.written wrote;
+      written = wrote-more (code_command p input limit).frames f before mid after t.written wrote;
       holds = refl;
       within = omega (arith, taken, counted, size, full, t.reached);
       left_is = t.left_is ∙ ap (λ n. Some (drop n input)) (let e : frame_start p head f + count ≡ frame_start p head (f + 1) + 0 = omega (arith, taken) in e);
     }
 
 pub write_failed : (p : Schedule) (input : List ℕ) (limit head f count n : ℕ) (frame : List ℕ) (left before mid after : Option (List ℕ)) → IsPlain p → length frame ≡ 204 * plain_slots p → length frame ≤ count → Turn p input limit head f count frame left before mid
-    → Passed p input limit (f + 1) → n < length (coded_frame p input f) → after ≡ append_known mid (take n (coded_frame p input f)) → WriteFailed p input limit before after left
+    → Passed (code_command p input limit).frames (f + 1) → n < length (coded_frame p input f) → after ≡ append_known mid (take n (coded_frame p input f)) → WriteFailed (code_command p input limit).frames (Took (code_command p input limit) left) before after
 write_failed p input limit head f count n frame left before mid after plain size full t passed short wrote = record {
   frame = f;
   sent = n;
-  head = head;
-  found = t.found;
   passed = passed;
   short = short;
-  written = wrote_part p input f n before mid after t.written wrote;
-  left_is = t.left_is ∙ ap (λ n. Some (drop n input)) (taken_all p input limit head f count frame left before mid plain size full t);
+  written = wrote_part (code_command p input limit).frames f n before mid after t.written wrote;
+  account = t.left_is ∙ ap (λ n. Some (drop n input)) (taken_all p input limit head f count frame left before mid plain size full t ∙ sym (starts-next p input head f t.found t.searched));
 }
 
 -- what was written of the frame
@@ -263,26 +233,25 @@ wrote_all p input head f cells mid after is wrote = wrote ∙ ap (append_known m
 -- ---- a read failed
 
 pub read_failed : (p : Schedule) (input : List ℕ) (limit head f held : ℕ) (old new : List ℕ) (left left' before now : Option (List ℕ)) → IsPlain p → f < limit → length new ≡ 204 * plain_slots p
-    → Progress p input limit head f held old left before now → StoppedBelow held new (drop (frame_start p head f + held) input) left' → ReadFailed p input limit before now left'
+    → Progress p input limit head f held old left before now → StoppedBelow held new (drop (frame_start p head f + held) input) left' → ReadFailed (code_command p input limit).frames (λ g seat. Stopped (code_command p input limit) left' g) seats.In before now
 read_failed p input limit head f held old new left left' before now plain less size so_far stop =
     let below = stop.below in
     let more = start-more p head f plain.no_switch in
     let rises = start-rises p head (f + 1) (limit - (f + 1)) plain.no_switch in
     let last = ap (λ g. frame_start p head g) (let e : f + 1 + (limit - (f + 1)) ≡ limit = omega (arith, less) in e) in
+    let next = starts-next p input head f so_far.found so_far.searched in
+    let end = starts-found p input head limit so_far.found so_far.searched (omega (arith, less)) in
     record {
       frame = f;
       passed = so_far.passed;
       written = so_far.written;
-      taken = frame_start p head f + held + stop.taken;
-      left_is = stop.left_is ∙ ap Some (drop-drop stop.taken (frame_start p head f + held) input);
-      stopped = inr (record {
-        head = head;
-        found = so_far.found;
-        searched = so_far.searched;
-        from = omega arith;
-        below = omega (arith, below, more, size);
-        most = omega (arith, below, more, size, rises, last);
-      });
+      account = record {
+        taken = frame_start p head f + held + stop.taken;
+        left_is = stop.left_is ∙ ap Some (drop-drop stop.taken (frame_start p head f + held) input);
+        from = (let within = starts-within p input head f so_far.found so_far.searched in omega (arith, within));
+        below = omega (arith, below, more, size, next);
+        most = omega (arith, below, more, size, rises, last, end);
+      };
     }
 
 -- ---- the limit of frames
@@ -294,38 +263,39 @@ first-of : (a b c : Option CodeFault) (x : CodeFault) → a ≡ Some x → first
 first-of a b c x is = rw is refl
 
 pub ended_at_limit : (p : Schedule) (input : List ℕ) (limit head held m : ℕ) (frame : List ℕ) (left left' before now : Option (List ℕ)) → held ≡ 0 → Progress p input limit head limit held frame left before now
-    → m ≡ limit → drop (frame_start p head limit + held) input ≡ [] → left' ≡ Some [] → Finished p input limit m before now left'
+    → m ≡ limit → drop (frame_start p head limit + held) input ≡ [] → left' ≡ Some [] → Finished (code_command p input limit) m before now left'
 ended_at_limit p input limit head held m frame left left' before now none so_far is empty gone =
     let size = length-drop (frame_start p head limit + held) input in
     let nothing : length (drop (frame_start p head limit + held) input) ≡ 0 = ap length empty in
-    subst (λ k. Finished p input limit k before now left') (sym is)
+    subst (λ k. Finished (code_command p input limit) k before now left') (sym is)
     (finished p input limit head limit left' before now so_far.found so_far.searched so_far.passed so_far.written (omega (arith, size, nothing, none)) gone)
 
-pub too_long : (p : Schedule) (input : List ℕ) (limit head held : ℕ) (frame : List ℕ) (left before now : Option (List ℕ)) → held ≡ 0 → Progress p input limit head limit held frame left before now
-    → 0 < length (drop (frame_start p head limit + held) input) → Refused p input limit TooLong before now
-too_long p input limit head held frame left before now none so_far more =
+pub too_long : (p : Schedule) (input : List ℕ) (limit head held : ℕ) (frame : List ℕ) (left left' before now : Option (List ℕ)) → IsPlain p → 0 < plain_slots p → held ≡ 0 → Progress p input limit head limit held frame left before now
+    → 0 < length (drop (frame_start p head limit + held) input) → left' ≡ Some (drop 1 (drop (frame_start p head limit + held) input)) → Refused (code_command p input limit).frames (TookAtMost (code_command p input limit) left') TooLong before now
+too_long p input limit head held frame left left' before now plain some none so_far more one =
     let size = length-drop (frame_start p head limit + held) input in
-    refused p input limit head limit TooLong before now so_far.found so_far.searched so_far.passed so_far.written
+    let next = start-more p head limit plain.no_switch in
+    refused p input limit head limit (frame_start p head limit + held + 1) TooLong left' before now plain.no_switch so_far.found so_far.searched so_far.passed so_far.written
     (refusal-parts p input limit head limit (there p input head limit (omega (arith, size, more, none))) ∙ first-of _ _ _ TooLong (at_limit limit))
+    (one ∙ ap Some (drop-drop 1 (frame_start p head limit + held) input)) (omega (arith, next, some, none))
 
-pub stopped_at_limit : (p : Schedule) (input : List ℕ) (limit head held : ℕ) (frame : List ℕ) (left left' before now : Option (List ℕ)) → IsPlain p → 0 < plain_slots p → held ≡ 0 → Progress p input limit head limit held frame left before now
-    → left' ≡ Some (drop (frame_start p head limit + held) input) → ReadFailed p input limit before now left'
-stopped_at_limit p input limit head held frame left left' before now plain some none so_far rest =
+pub stopped_at_limit : (p : Schedule) (input : List ℕ) (limit head held : ℕ) (frame : List ℕ) (left left' before now : Option (List ℕ)) → 0 < limit → IsPlain p → 0 < plain_slots p → held ≡ 0 → Progress p input limit head limit held frame left before now
+    → left' ≡ Some (drop (frame_start p head limit + held) input) → ReadFailed (code_command p input limit).frames (λ g seat. Stopped (code_command p input limit) left' g) seats.In before now
+stopped_at_limit p input limit head held frame left left' before now few plain some none so_far rest =
     let more = start-more p head limit plain.no_switch in
+    let next = starts-next p input head limit so_far.found so_far.searched in
+    let end = starts-found p input head limit so_far.found so_far.searched few in
     record {
       frame = limit;
       passed = so_far.passed;
       written = so_far.written;
-      taken = frame_start p head limit + held;
-      left_is = rest;
-      stopped = inr (record {
-        head = head;
-        found = so_far.found;
-        searched = so_far.searched;
-        from = omega arith;
-        below = omega (arith, more, some, none);
-        most = omega (arith, none);
-      });
+      account = record {
+        taken = frame_start p head limit + held;
+        left_is = rest;
+        from = omega (arith, end);
+        below = omega (arith, more, some, none, next);
+        most = omega (arith, none, end);
+      };
     }
 
 -- ---- what the calls say of the plan's mode and setting
@@ -343,39 +313,16 @@ wrote_some cells frame n mid after same short wrote = (subst (λ (xs : List ℕ)
 
 -- ---- the end at the limit
 
-pub end_answer : (p : Schedule) (input : List ℕ) (limit head held : ℕ) (frame : List ℕ) (left left' before now : Option (List ℕ)) (result : Result ℕ CodeFault) → IsPlain p → 0 < plain_slots p → held ≡ 0 → Progress p input limit head limit held frame left before now
-    → EndAnswer limit (drop (frame_start p head limit + held) input) left' result → CodeAnswer p input limit before now left' result
-end_answer p input limit head held frame left left' before now (Ok m) plain some none so_far said = ended_at_limit p input limit head held m frame left left' before now none so_far said.0 said.1 said.2
-end_answer p input limit head held frame left left' before now (Err TooLong) plain some none so_far said = too_long p input limit head held frame left before now none so_far said
-end_answer p input limit head held frame left left' before now (Err (ReadFault seat)) plain some none so_far said = stopped_at_limit p input limit head held frame left left' before now plain some none so_far said
-end_answer p input limit head held frame left left' before now (Err (BadSync seat n)) plain some none so_far said = absurd said
-end_answer p input limit head held frame left left' before now (Err (Truncated seat n)) plain some none so_far said = absurd said
-end_answer p input limit head held frame left left' before now (Err (HeadMisplaced f s)) plain some none so_far said = absurd said
-end_answer p input limit head held frame left left' before now (Err NoHead) plain some none so_far said = absurd said
-end_answer p input limit head held frame left left' before now (Err (WrongCount f x n)) plain some none so_far said = absurd said
-end_answer p input limit head held frame left left' before now (Err WriteFault) plain some none so_far said = absurd said
-end_answer p input limit head held frame left left' before now (Err NoMemory) plain some none so_far said = absurd said
-
-pub end_cause : (shelf middle shelf' : Cause → ℕ) (sink sink' : ℕ) (result : Result ℕ CodeFault) → middle ≡ shelf → sink' ≡ sink → EndCause middle shelf' result → CodeCause shelf shelf' sink sink' result
-end_cause shelf middle shelf' sink sink' (Ok m) kept kept' said = (said ∙ kept, kept')
-end_cause shelf middle shelf' sink sink' (Err TooLong) kept kept' said = (said ∙ kept, kept')
-end_cause shelf middle shelf' sink sink' (Err (ReadFault seat)) kept kept' said = (said.0, subst (λ (f : Cause → ℕ). Rose (f (Reading seats.In)) (shelf' (Reading seats.In))) kept said.1, kept')
-end_cause shelf middle shelf' sink sink' (Err (BadSync seat n)) kept kept' said = (said ∙ kept, kept')
-end_cause shelf middle shelf' sink sink' (Err (Truncated seat n)) kept kept' said = (said ∙ kept, kept')
-end_cause shelf middle shelf' sink sink' (Err (HeadMisplaced f s)) kept kept' said = (said ∙ kept, kept')
-end_cause shelf middle shelf' sink sink' (Err NoHead) kept kept' said = (said ∙ kept, kept')
-end_cause shelf middle shelf' sink sink' (Err (WrongCount f x n)) kept kept' said = (said ∙ kept, kept')
-end_cause shelf middle shelf' sink sink' (Err WriteFault) kept kept' said = absurd said
-end_cause shelf middle shelf' sink sink' (Err NoMemory) kept kept' said = (said ∙ kept, kept')
-
-pub end_room : (shelf shelf' : Cause → ℕ) (room : Option ℕ) (after : Option (List ℕ)) (result : Result ℕ CodeFault) → EndCause shelf shelf' result → RoomAnswer room after result
-end_room shelf shelf' room after (Ok m) said = tt
-end_room shelf shelf' room after (Err TooLong) said = tt
-end_room shelf shelf' room after (Err (ReadFault seat)) said = tt
-end_room shelf shelf' room after (Err (BadSync seat n)) said = tt
-end_room shelf shelf' room after (Err (Truncated seat n)) said = tt
-end_room shelf shelf' room after (Err (HeadMisplaced f s)) said = tt
-end_room shelf shelf' room after (Err NoHead) said = tt
-end_room shelf shelf' room after (Err (WrongCount f x n)) said = tt
-end_room shelf shelf' room after (Err WriteFault) said = absurd said
-end_room shelf shelf' room after (Err NoMemory) said = tt
+pub end_answer : (p : Schedule) (input : List ℕ) (limit head held : ℕ) (frame : List ℕ) (left left' before now : Option (List ℕ)) (result : Result ℕ CodeFault) → 0 < limit → IsPlain p → 0 < plain_slots p → held ≡ 0 → Progress p input limit head limit held frame left before now
+    → EndAnswer limit (drop (frame_start p head limit + held) input) left' result → LoneAnswer code_kind (code_command p input limit) before now left' result
+end_answer p input limit head held frame left left' before now (Ok m) few plain some none so_far said = ended_at_limit p input limit head held m frame left left' before now none so_far said.0 said.1 said.2
+end_answer p input limit head held frame left left' before now (Err TooLong) few plain some none so_far said = too_long p input limit head held frame left left' before now plain some none so_far said.0 said.1
+end_answer p input limit head held frame left left' before now (Err (ReadFault seat)) few plain some none so_far said =
+    (let r = stopped_at_limit p input limit head held frame left left' before now few plain some none so_far said.1 in subst (λ s. ReadFailed (code_command p input limit).frames (λ g seat. Stopped (code_command p input limit) left' g) s before now) (sym said.0) r)
+end_answer p input limit head held frame left left' before now (Err (BadSync seat n)) few plain some none so_far said = absurd said
+end_answer p input limit head held frame left left' before now (Err (Truncated seat n)) few plain some none so_far said = absurd said
+end_answer p input limit head held frame left left' before now (Err (HeadMisplaced f s)) few plain some none so_far said = absurd said
+end_answer p input limit head held frame left left' before now (Err NoHead) few plain some none so_far said = absurd said
+end_answer p input limit head held frame left left' before now (Err (WrongCount f x n)) few plain some none so_far said = absurd said
+end_answer p input limit head held frame left left' before now (Err WriteFault) few plain some none so_far said = absurd said
+end_answer p input limit head held frame left left' before now (Err NoMemory) few plain some none so_far said = absurd said

@@ -1,6 +1,7 @@
 pub mod CellLists
 pub mod Codable
 pub mod CodeProgress
+pub mod CodeStarts
 pub mod EpochFrames
 pub mod Filling
 pub mod Finding

@@ -1,15 +1,20 @@
 -- What the end of the search for the first frame head says of the command.
-use Rattle.std.proofs.Common.{◌≡◌, ℕ, false, List, [], refl, ap, ◌∙◌, inl}
+use Rattle.std.proofs.Common.{◌≡◌, ℕ, zero, suc, ◌+◌, ◌-◌, ◌*◌, ◌≤◌, ◌<◌, false, List, [], length, drop, refl, ap, ◌∙◌, arith}
 use Rattle.std.specs.Prelude.{Some, None, Err}
 use Rattle.std.specs.declared.option.Option.{Option}
+use Rattle.isdbt_base.specs.Outcome.{IsOutcome}
 use Rattle.isdbt_base.specs.Plans.{Schedule}
+use Rattle.edge_io.specs.declared.shelf.Seat.{Seat}
 use Rattle.edge_io.specs.Causes.{Cause}
+use Rattle.edge_io.specs.FrameAnswers.{FaultKind, frame_refused, read_failed, write_failed, no_memory, Refused, ReadFailed, TookAtMost, Stopped, Finished, lone_account, FaultAnswer, LoneAnswer, ReadingFault}
+use Rattle.edge_io.proofs.FrameAnswers.{wrote-none, passed-none, ended-refused}
 use Rattle.coder_core.specs.declared.fault.CodeFault.{CodeFault}
-use Rattle.coder_core.specs.declared.fault.CodeFault.TheVariants.{BadSync, Truncated, HeadMisplaced, NoHead, WrongCount, ReadFault, WriteFault, TooLong, NoMemory}
-use Rattle.coder_core.specs.InputFrames.{first_head}
-use Rattle.coder_core.specs.CodeRefusals.{search_refusal, code_refusal, is_there}
-use Rattle.coder_core.specs.Answers.{Refused, Finished, CodeAnswer, SearchAnswer, SearchCause}
-use Rattle.coder_core.proofs.CodeProgress.{wrote-none, passed-none}
+use Rattle.coder_core.specs.InputFrames.{first_head, frame_start}
+use Rattle.coder_core.specs.CodeRefusals.{packet_refusal, search_refusal, search_end, code_refusal, is_there, code_starts}
+use Rattle.coder_core.specs.Answers.{code_kind, code_command, StoppedInSearch, SearchRefused, SearchFault, SearchAnswer}
+use Rattle.coder_core.proofs.PlainFrames.{plain_slots, start-zero, start-more, start-rises}
+use Rattle.coder_core.proofs.CodeStarts.{starts-zero, starts-found, starts-refused, starts-none, search_stop-least}
+use Rattle.coder_core.proofs.Searching.{head-from, not_short}
 
 -- an empty input has no frame
 empty_refusal : (p : Schedule) (limit : ℕ) → code_refusal p [] limit 0 ≡ None
@@ -20,11 +25,11 @@ empty_there : (p : Schedule) → is_there p [] 0 ≡ false
 unfolding is_there first_head
 empty_there p = refl
 
-pub empty_input : (p : Schedule) (input : List ℕ) (limit : ℕ) (left before : Option (List ℕ)) → input ≡ [] → left ≡ Some [] → Finished p input limit 0 before before left
+pub empty_input : (p : Schedule) (input : List ℕ) (limit : ℕ) (left before : Option (List ℕ)) → input ≡ [] → left ≡ Some [] → Finished (code_command p input limit) 0 before before left
 empty_input p input limit left before none gone = record {
   ended = record {
-    outcome = record { before = passed-none p input limit; at = ap (λ xs. code_refusal p xs limit 0) none ∙ empty_refusal p limit; done = λ e. ap (λ xs. is_there p xs 0) none ∙ empty_there p };
-    written = wrote-none p input before;
+    outcome = record { before = passed-none (code_command p input limit).frames; at = ap (λ xs. code_refusal p xs limit 0) none ∙ empty_refusal p limit; done = λ e. ap (λ xs. is_there p xs 0) none ∙ empty_there p };
+    written = wrote-none (code_command p input limit).frames before;
   };
   left_is = gone;
 }
@@ -34,30 +39,56 @@ refused_first : (p : Schedule) (input : List ℕ) (limit : ℕ) (fault : CodeFau
 unfolding code_refusal
 refused_first p input limit fault why = rw why refl
 
-refused : (p : Schedule) (input : List ℕ) (limit : ℕ) (fault : CodeFault) (before : Option (List ℕ)) → search_refusal input ≡ Some fault → Refused p input limit fault before before
-refused p input limit fault before why = (
-  0,
-  record {
-    outcome = record { before = passed-none p input limit; at = refused_first p input limit fault why; done = λ e. absurd (cc) };
-    written = wrote-none p input before;
-  },
-)
-
-pub search_ended : (p : Schedule) (input : List ℕ) (limit : ℕ) (packet : List ℕ) (left before : Option (List ℕ)) (shelf shelf' : Cause → ℕ) (fault : CodeFault) → SearchCause shelf shelf' (Err fault) → SearchAnswer input packet left (Err fault)
-    → CodeAnswer p input limit before before left (Err fault)
-search_ended p input limit packet left before shelf shelf' (BadSync seat n) cause said = refused p input limit (BadSync seat n) before said
-search_ended p input limit packet left before shelf shelf' (Truncated seat n) cause said = refused p input limit (Truncated seat n) before said
-search_ended p input limit packet left before shelf shelf' (HeadMisplaced f s) cause said = refused p input limit (HeadMisplaced f s) before said
-search_ended p input limit packet left before shelf shelf' NoHead cause said = refused p input limit NoHead before said
-search_ended p input limit packet left before shelf shelf' (WrongCount f x n) cause said = refused p input limit (WrongCount f x n) before said
-search_ended p input limit packet left before shelf shelf' (ReadFault seat) cause said = record {
+refused : (p : Schedule) (input : List ℕ) (limit : ℕ) (fault : CodeFault) (left before : Option (List ℕ)) → SearchRefused input left fault → Refused (code_command p input limit).frames (TookAtMost (code_command p input limit) left) fault before before
+refused p input limit fault left before r = record {
   frame = 0;
-  passed = passed-none p input limit;
-  written = wrote-none p input before;
-  taken = said.0;
-  left_is = said.1;
-  stopped = inl (refl, said.2);
+  ended = ended-refused (code_command p input limit).frames 0 fault before before (passed-none (code_command p input limit).frames) (wrote-none (code_command p input limit).frames before) (refused_first p input limit fault r.refused);
+  account = record { taken = r.taken; left_is = r.left_is; most = (let e = starts-refused p input 1 fault r.refused (omega arith) in let most = r.most in omega (arith, e, most)) };
 }
-search_ended p input limit packet left before shelf shelf' WriteFault cause said = absurd cause
-search_ended p input limit packet left before shelf shelf' TooLong cause said = refused p input limit TooLong before said
-search_ended p input limit packet left before shelf shelf' NoMemory cause said = absurd cause
+
+-- good packets are whole
+good-whole : (input : List ℕ) (n : ℕ) → ((k : ℕ) → k < n → packet_refusal input k ≡ None) → 204 * n ≤ length input
+good-whole input zero good = omega arith
+good-whole input (suc k) good = (let e = not_short input k (good k (omega arith)) in omega (arith, e))
+
+-- a read that stopped in the search stopped in frame 0
+below-end : (p : Schedule) (input : List ℕ) (taken f : ℕ) (r : Option CodeFault) (o : Option ℕ) → p.switches ≡ [] → 0 < plain_slots p → 0 < f → search_refusal input ≡ r → first_head input ≡ o → StoppedInSearch input taken → taken < code_starts p input f
+below-end p input taken f (Some fault) o none slots some why is stop =
+    let e = starts-refused p input f fault why some in
+    let least = search_stop-least input stop.packets stop.good stop.no_head (good-whole input stop.packets stop.good) in
+    omega (arith, e, least, stop.below, stop.most)
+below-end p input taken f None None none slots some why is stop =
+    let e = starts-none p input f None why is some in
+    let least = search_stop-least input stop.packets stop.good stop.no_head (good-whole input stop.packets stop.good) in
+    omega (arith, e, least, stop.below, stop.most)
+below-end p input taken f None (Some head) none slots some why is stop =
+    let e = starts-found p input head f is why some in
+    let first = start-zero p head in
+    let one = start-more p head 0 none in
+    let rises = start-rises p head 1 (f - 1) none in
+    let last = ap (λ g. frame_start p head g) (let e' : 1 + (f - 1) ≡ f = omega (arith, some) in e') in
+    let past = head-from input stop.packets head stop.no_head is in
+    omega (arith, e, first, one, rises, last, past, stop.below, slots)
+
+stopped : (p : Schedule) (input : List ℕ) (limit : ℕ) (seat : Seat) (left before : Option (List ℕ)) → p.switches ≡ [] → 0 < plain_slots p → 0 < limit → (taken : ℕ) × (left ≡ Some (drop taken input)) × StoppedInSearch input taken
+    → ReadFailed (code_command p input limit).frames (λ f seat. Stopped (code_command p input limit) left f) seat before before
+stopped p input limit seat left before none slots some said =
+    let below = below-end p input said.0 1 (search_refusal input) (first_head input) none slots (omega arith) refl refl said.2 in
+    let end = below-end p input said.0 limit (search_refusal input) (first_head input) none slots some refl refl said.2 in
+    record {
+      frame = 0;
+      passed = passed-none (code_command p input limit).frames;
+      written = wrote-none (code_command p input limit).frames before;
+      account = record { taken = said.0; left_is = said.1; from = (let first = starts-zero p input in omega (arith, first)); below = below; most = omega (arith, end) };
+    }
+
+ended : (p : Schedule) (input : List ℕ) (limit : ℕ) (left before : Option (List ℕ)) (fault : CodeFault) (kind : FaultKind) → p.switches ≡ [] → 0 < plain_slots p → 0 < limit → SearchFault input left fault kind
+    → FaultAnswer (code_command p input limit).frames (lone_account (code_command p input limit) left) before before fault kind
+ended p input limit left before fault frame_refused none slots some said = refused p input limit fault left before said
+ended p input limit left before fault (read_failed seat) none slots some said = stopped p input limit seat left before none slots some said
+ended p input limit left before fault write_failed none slots some said = absurd said
+ended p input limit left before fault no_memory none slots some said = absurd said
+
+pub search_ended : (p : Schedule) (input : List ℕ) (limit : ℕ) (packet : List ℕ) (left before : Option (List ℕ)) (fault : CodeFault) → p.switches ≡ [] → 0 < plain_slots p → 0 < limit → SearchAnswer input packet left (Err fault)
+    → LoneAnswer code_kind (code_command p input limit) before before left (Err fault)
+search_ended p input limit packet left before fault none slots some said = ended p input limit left before fault (code_kind fault) none slots some said

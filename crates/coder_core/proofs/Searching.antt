@@ -7,16 +7,17 @@ use Rattle.std.proofs.lemmas.List.{drop_all, take_all}
 use Rattle.isdbt_base.specs.Outcome.{first_some}
 use Rattle.ts_packet.specs.Packets.{piece, piece_count}
 use Rattle.edge_io.specs.declared.shelf.Seat.TheVariants as seats
-use Rattle.edge_io.specs.Causes.{Cause}
 use Rattle.coder_core.specs.declared.fault.CodeFault.{CodeFault}
-use Rattle.coder_core.specs.declared.fault.CodeFault.TheVariants.{BadSync, Truncated, HeadMisplaced, NoHead, WrongCount, ReadFault, WriteFault, TooLong, NoMemory}
+use Rattle.coder_core.specs.declared.fault.CodeFault.TheVariants.{Truncated, NoHead, TooLong}
 use Rattle.coder_core.specs.InputFrames.{first_head, bears_head}
 use Rattle.coder_core.specs.FrameChecks.{information_in}
 use Rattle.bts_info.specs.Information.{has_head}
 use Rattle.coder_core.specs.CodeRefusals.{search_limit, packet_refusal, looked_at, search_refusal}
-use Rattle.coder_core.specs.Answers.{StoppedInSearch, Found, SearchAnswer, SearchCause, OfPacket}
+use Rattle.edge_io.specs.FrameAnswers.{frame_refused}
+use Rattle.coder_core.specs.Answers.{code_kind, StoppedInSearch, Found, SearchRefused, SearchFault, SearchAnswer}
 use Rattle.coder_core.specs.Reading.{FilledTo, StoppedBelow}
 use Rattle.coder_core.proofs.Finding.{find-none_of, find-first_of, find-passes}
+use Rattle.coder_core.proofs.CodeStarts.{search_stop-least}
 use Rattle.coder_core.proofs.FirstCauses.{no_cause, first_cause}
 
 -- so many packets were taken, all good and without the head flag
@@ -32,7 +33,7 @@ begin input left told = record { good = λ k less. absurd (omega (arith, less));
 -- ---- the definitions, where the search stands at packet i
 
 -- the first head is packet i or one behind it
-head-from : (input : List ℕ) (i h : ℕ) → ((k : ℕ) → k < i → bears_head (piece 204 input k) ≡ false) → first_head input ≡ Some h → i ≤ h
+pub head-from : (input : List ℕ) (i h : ℕ) → ((k : ℕ) → k < i → bears_head (piece 204 input k) ≡ false) → first_head input ≡ Some h → i ≤ h
 unfolding first_head
 head-from input i h none found =
     elim (cases_lt h i) [
@@ -123,7 +124,7 @@ cut-some true true x y o e none = (cc)
 cut-some false true x y o e none = (cc)
 cut-some far false x y o e none = (cc)
 
-not_short : (input : List ℕ) (i : ℕ) → packet_refusal input i ≡ None → 204 * (i + 1) ≤ length input
+pub not_short : (input : List ℕ) (i : ℕ) → packet_refusal input i ≡ None → 204 * (i + 1) ≤ length input
 not_short input i none =
     elim (cases_lt (length input) (204 * (i + 1))) [
       | inr le ↦ le
@@ -195,24 +196,15 @@ too_far input i at = rw (eq-eqb i search_limit at) refl
 pub refused_far : (input : List ℕ) (i : ℕ) (left : Option (List ℕ)) → i ≡ search_limit → 204 * i < length input → Searched input i left → search_refusal input ≡ Some TooLong
 refused_far input i left at more so_far = refused input i left TooLong more so_far (sym (too_far input i at))
 
-pub packet_answer : (input packet : List ℕ) (left : Option (List ℕ)) (fault : CodeFault) → OfPacket fault → search_refusal input ≡ Some fault → SearchAnswer input packet left (Err fault)
-packet_answer input packet left (BadSync seat n) kind e = e
-packet_answer input packet left (Truncated seat n) kind e = e
-packet_answer input packet left (HeadMisplaced f s) kind e = e
-packet_answer input packet left NoHead kind e = e
-packet_answer input packet left (WrongCount f x n) kind e = e
-packet_answer input packet left (ReadFault seat) kind e = absurd kind
-packet_answer input packet left WriteFault kind e = e
-packet_answer input packet left TooLong kind e = e
-packet_answer input packet left NoMemory kind e = e
+-- the search is refused, and so many bytes of the next packet came
+pub search_refused : (input : List ℕ) (i n : ℕ) (fault : CodeFault) (left left' : Option (List ℕ)) → Searched input i left → n ≤ 204 → 204 * i + n ≤ 204 * search_limit + 1 → left' ≡ Some (drop (204 * i + n) input) → search_refusal input ≡ Some fault
+    → SearchRefused input left' fault
+search_refused input i n fault left left' so_far most within rest why = record {
+  refused = why;
+  taken = 204 * i + n;
+  left_is = rest;
+  most = (let least = search_stop-least input i so_far.good so_far.no_head so_far.whole in omega (arith, least, most, within));
+}
 
-pub packet_cause : (shelf shelf' : Cause → ℕ) (fault : CodeFault) → OfPacket fault → shelf' ≡ shelf → SearchCause shelf shelf' (Err fault)
-packet_cause shelf shelf' (BadSync seat n) kind e = e
-packet_cause shelf shelf' (Truncated seat n) kind e = e
-packet_cause shelf shelf' (HeadMisplaced f s) kind e = e
-packet_cause shelf shelf' NoHead kind e = e
-packet_cause shelf shelf' (WrongCount f x n) kind e = e
-packet_cause shelf shelf' (ReadFault seat) kind e = absurd kind
-packet_cause shelf shelf' WriteFault kind e = absurd kind
-packet_cause shelf shelf' TooLong kind e = e
-packet_cause shelf shelf' NoMemory kind e = absurd kind
+pub packet_answer : (input packet : List ℕ) (left : Option (List ℕ)) (fault : CodeFault) → code_kind fault ≡ frame_refused → SearchRefused input left fault → SearchAnswer input packet left (Err fault)
+packet_answer input packet left fault kind refused = subst (SearchFault input left fault) (sym kind) refused

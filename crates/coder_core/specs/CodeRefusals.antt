@@ -1,5 +1,5 @@
 -- Which frames of a stream of broadcast packets the coder refuses, and why.
-use Rattle.std.specs.Prelude.{ℕ, ◌+◌, ◌-◌, ◌*◌, Bool, false, ◌==◌, nat_lt, Option, Some, None, List, [], ◌∷◌, map, length, slice_index, if◌then◌else◌}
+use Rattle.std.specs.Prelude.{ℕ, ◌+◌, ◌-◌, ◌*◌, Bool, false, ◌==◌, ◌||◌, nat_lt, min, is_some, unwrap_or, find, Option, Some, None, List, [], ◌∷◌, map, length, slice_index, if◌then◌else◌}
 use Rattle.std.specs.List.{range_with_len}
 use Rattle.isdbt_base.specs.Plans.{Schedule, at_frame}
 use Rattle.isdbt_base.specs.Frames.{FramePackets}
@@ -9,7 +9,7 @@ use Rattle.edge_io.specs.declared.shelf.Seat.TheVariants as seats
 use Rattle.coder_core.specs.declared.fault.CodeFault.{CodeFault}
 use Rattle.coder_core.specs.declared.fault.CodeFault.TheVariants.{BadSync, Truncated, NoHead, TooLong}
 use Rattle.coder_core.specs.FrameChecks.{refusal}
-use Rattle.coder_core.specs.InputFrames.{first_head, slots_at, packets_before, frame_start, frame_at, input_frames}
+use Rattle.coder_core.specs.InputFrames.{first_head, bears_head, slots_at, packets_before, frame_start, frame_at, input_frames}
 use Rattle.coder_core.specs.SentCells.{frame_cells}
 
 -- ---- the search for the first frame head
@@ -37,6 +37,18 @@ no_head input (Some head) = None
 -- why the search is refused: for the first packet that is, or for no head
 unfoldable pub search_refusal : List ℕ → Option CodeFault
 search_refusal input = first_some (first_some (map (packet_refusal input) (range_with_len 0 (looked_at input (first_head input)))) ∷ no_head input (first_head input) ∷ [])
+
+-- packet i ends the search: it is refused, or bears the head
+abbrev pub ends_search : List ℕ → ℕ → Bool
+ends_search input i = is_some (packet_refusal input i) || bears_head (piece 204 input i)
+
+-- the packet at which the search ends: the first that ends it, or that behind the last
+unfoldable pub search_stop : List ℕ → ℕ
+search_stop input = unwrap_or (find (ends_search input) (range_with_len 0 (piece_count 204 input))) (piece_count 204 input)
+
+-- the bytes up to the end of that packet; behind the packets in which the head is looked for one byte is asked for
+abbrev pub search_end : List ℕ → ℕ
+search_end input = min (204 * (search_stop input + 1)) (204 * search_limit + 1)
 
 -- ---- the frames from the first head on
 
@@ -72,6 +84,16 @@ there_from p input f (Some head) = has_byte_of p input head f
 -- whether frame f is there: where the stream has a byte of it
 unfoldable pub is_there : Schedule → List ℕ → ℕ → Bool
 is_there p input f = there_from p input f (first_head input)
+
+-- ---- what is taken
+
+abbrev pub starts_from : Schedule → List ℕ → ℕ → Option CodeFault → Option ℕ → ℕ
+starts_from p input f None (Some head) = frame_start p head f
+starts_from p input f refusal head = search_end input
+
+-- the bytes of the stream that are taken before a frame; the search belongs to frame 0, and where it finds no head all ends with it
+unfoldable pub code_starts : Schedule → List ℕ → ℕ → ℕ
+code_starts p input f = if f == 0 then 0 else starts_from p input f (search_refusal input) (first_head input)
 
 -- ---- what is written
 

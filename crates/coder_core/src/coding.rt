@@ -9,7 +9,8 @@ ghost use Rattle.edge_io.specs.Causes.{HasCause, Reading, ShelfCause};
 ghost use Rattle.coder_core.specs.FrameChecks.{CanCode};
 ghost use Rattle.coder_core.specs.SentCells.{epoch_frame_cells, frame_size, plan_word};
 ghost use Rattle.coder_core.specs.Coder.{mode_of, guard_of, setting_of, IsFrameOf, StandsFor};
-ghost use Rattle.coder_core.specs.Answers.{IsPlain, Found, CodeAnswer, CodeCause, RoomAnswer, SearchAnswer, SearchCause, EndAnswer, EndCause};
+ghost use Rattle.edge_io.specs.FrameAnswers.{LoneAnswer, LoneCause, ReadingCause, AnswerRoom};
+ghost use Rattle.coder_core.specs.Answers.{IsPlain, Found, code_kind, code_command, SearchAnswer, EndAnswer};
 
 use crate::check::PACKET;
 use crate::coder::Coder;
@@ -73,7 +74,7 @@ fn end_at_limit<H: Shelf>(limit: u32, frame: &mut [u8], shelf: &mut H) -> Result
     requires some { 0 < length frame.old }
     ensures still_open { H.is_open shelf.new ≡ H.is_open shelf.old }
     ensures answer { (bytes : List ℕ) → H.left shelf.old seats.In ≡ Some bytes → EndAnswer limit bytes (H.left shelf.new seats.In) result }
-    ensures cause { EndCause (H.faults shelf.old) (H.faults shelf.new) result }
+    ensures cause { ReadingCause code_kind (H.faults shelf.old) (H.faults shelf.new) result }
 {
     match fill_behind(shelf, 0, &mut frame[..1]) {
         Ok(0) => Ok(limit),
@@ -106,11 +107,11 @@ fn code_frames<H: Shelf, K: Sink>(
     requires room { length cells.old ≡ frame_size plan.now.first.mode }
     requires is_open { H.is_open shelf.old seats.In ≡ true }
     ensures answer { (input : List ℕ) → Found input head (take 204 frame.old) (H.left shelf.old seats.In)
-        → CodeAnswer plan.now input limit (K.written sink.old) (K.written sink.new) (H.left shelf.new seats.In) result }
+        → LoneAnswer code_kind (code_command plan.now input limit) (K.written sink.old) (K.written sink.new) (H.left shelf.new seats.In) result }
     ensures still_open { H.is_open shelf.new ≡ H.is_open shelf.old }
-    ensures cause { CodeCause (H.faults shelf.old) (H.faults shelf.new) (K.faults sink.old) (K.faults sink.new) result }
+    ensures cause { LoneCause code_kind (H.faults shelf.old) (H.faults shelf.new) (K.faults sink.old) (K.faults sink.new) result }
     ensures sink_room { K.room sink.new ≡ K.room sink.old }
-    ensures reached { RoomAnswer (K.room sink.old) (K.written sink.new) result }
+    ensures reached { AnswerRoom code_kind (K.room sink.old) (K.written sink.new) result }
 {
     let slots = u64::from(slots(plan.mode(), plan.guard()));
     let mut held = PACKET;
@@ -164,7 +165,7 @@ fn find_in<H: Shelf>(shelf: &mut H, frame: &mut [u8]) -> Result<Option<u32>, Cod
     ensures still_open { H.is_open shelf.new ≡ H.is_open shelf.old }
     ensures within { IfOk result (λ found. IfSome found (λ head. head < 65536)) }
     ensures answer { (input : List ℕ) → H.left shelf.old seats.In ≡ Some input → SearchAnswer input (take 204 frame.new) (H.left shelf.new seats.In) result }
-    ensures cause { SearchCause (H.faults shelf.old) (H.faults shelf.new) result }
+    ensures cause { ReadingCause code_kind (H.faults shelf.old) (H.faults shelf.new) result }
 {
     find_head(shelf, &mut frame[..PACKET])
 }
@@ -191,11 +192,11 @@ fn code_stream<H: Shelf, K: Sink>(
     requires room { length cells.old ≡ frame_size plan.now.first.mode }
     requires is_open { H.is_open shelf.old seats.In ≡ true }
     ensures answer { (input : List ℕ) → H.left shelf.old seats.In ≡ Some input
-        → CodeAnswer plan.now input limit (K.written sink.old) (K.written sink.new) (H.left shelf.new seats.In) result }
+        → LoneAnswer code_kind (code_command plan.now input limit) (K.written sink.old) (K.written sink.new) (H.left shelf.new seats.In) result }
     ensures still_open { H.is_open shelf.new ≡ H.is_open shelf.old }
-    ensures cause { CodeCause (H.faults shelf.old) (H.faults shelf.new) (K.faults sink.old) (K.faults sink.new) result }
+    ensures cause { LoneCause code_kind (H.faults shelf.old) (H.faults shelf.new) (K.faults sink.old) (K.faults sink.new) result }
     ensures sink_room { K.room sink.new ≡ K.room sink.old }
-    ensures reached { RoomAnswer (K.room sink.old) (K.written sink.new) result }
+    ensures reached { AnswerRoom code_kind (K.room sink.old) (K.written sink.new) result }
 {
     let head = match find_in(shelf, frame) {
         Ok(Some(head)) => head,
@@ -223,11 +224,11 @@ fn code_within<H: Shelf, K: Sink>(
     requires room { length cells.old ≡ frame_size plan.now.first.mode }
     requires is_open { H.is_open shelf.old seats.In ≡ true }
     ensures answer { (input : List ℕ) → H.left shelf.old seats.In ≡ Some input
-        → CodeAnswer plan.now input limit (K.written sink.old) (K.written sink.new) (H.left shelf.new seats.In) result }
+        → LoneAnswer code_kind (code_command plan.now input limit) (K.written sink.old) (K.written sink.new) (H.left shelf.new seats.In) result }
     ensures still_open { H.is_open shelf.new ≡ H.is_open shelf.old }
-    ensures cause { CodeCause (H.faults shelf.old) (H.faults shelf.new) (K.faults sink.old) (K.faults sink.new) result }
+    ensures cause { LoneCause code_kind (H.faults shelf.old) (H.faults shelf.new) (K.faults sink.old) (K.faults sink.new) result }
     ensures sink_room { K.room sink.new ≡ K.room sink.old }
-    ensures reached { RoomAnswer (K.room sink.old) (K.written sink.new) result }
+    ensures reached { AnswerRoom code_kind (K.room sink.old) (K.written sink.new) result }
 {
     plan.acceptance_law();
     let at = plan.at(0);
@@ -254,13 +255,13 @@ pub fn code<H: Shelf, K: Sink>(
     requires few { limit ≤ 16777216 }
     requires is_open { H.is_open shelf.old seats.In ≡ true }
     ensures answer { (input : List ℕ) → H.left shelf.old seats.In ≡ Some input
-        → CodeAnswer plan.now input limit (K.written sink.old) (K.written sink.new) (H.left shelf.new seats.In) result }
+        → LoneAnswer code_kind (code_command plan.now input limit) (K.written sink.old) (K.written sink.new) (H.left shelf.new seats.In) result }
     ensures still_open { H.is_open shelf.new ≡ H.is_open shelf.old }
-    ensures cause { CodeCause (H.faults shelf.old) (H.faults shelf.new) (K.faults sink.old) (K.faults sink.new) result }
+    ensures cause { LoneCause code_kind (H.faults shelf.old) (H.faults shelf.new) (K.faults sink.old) (K.faults sink.new) result }
 
     // The sink's room stays, and a write fails only where what was written reaches it.
     ensures room { K.room sink.new ≡ K.room sink.old }
-    ensures reached { RoomAnswer (K.room sink.old) (K.written sink.new) result }
+    ensures reached { AnswerRoom code_kind (K.room sink.old) (K.written sink.new) result }
 {
     let slots = slots(plan.mode(), plan.guard());
     let Ok(mut frame) = zeros(alloc, PACKET * slots as usize) else {

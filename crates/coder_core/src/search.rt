@@ -3,7 +3,8 @@
 ghost use Rattle.std.specs.Prelude.{◌≡◌, ℕ, List, ◌-◌, ◌*◌, ◌≤◌, ◌<◌, Some, true, length, take, drop, min, IfOk, IfSome};
 ghost use Rattle.edge_io.specs.declared.shelf.Seat.TheVariants as seats;
 ghost use Rattle.coder_core.specs.CodeRefusals.{packet_refusal};
-ghost use Rattle.coder_core.specs.Answers.{SearchAnswer, SearchCause, OfPacket};
+ghost use Rattle.edge_io.specs.FrameAnswers.{frame_refused, ReadingCause};
+ghost use Rattle.coder_core.specs.Answers.{code_kind, SearchAnswer};
 
 use crate::check::{PACKET, SYNC, bears_head};
 use crate::fault::CodeFault;
@@ -19,7 +20,7 @@ fn packet_fault(packet: &[u8], count: usize, number: u32) -> Option<CodeFault>
     requires most { count ≤ 204 }
     ensures refusal { (input : List ℕ) → number < 65536 → 0 < count → count ≡ min 204 (length input - 204 * number) → take count packet.now ≡ take count (drop (204 * number) input)
         → result ≡ packet_refusal input number }
-    ensures kind { IfSome result OfPacket }
+    ensures kind { IfSome result (λ fault. code_kind fault ≡ frame_refused) }
 {
     if count < PACKET {
         Some(CodeFault::Truncated {
@@ -44,7 +45,7 @@ pub fn find_head<H: Shelf>(shelf: &mut H, packet: &mut [u8]) -> Result<Option<u3
     ensures still_open { H.is_open shelf.new ≡ H.is_open shelf.old }
     ensures within { IfOk result (λ found. IfSome found (λ head. head < 65536)) }
     ensures answer { (input : List ℕ) → H.left shelf.old seats.In ≡ Some input → SearchAnswer input packet.new (H.left shelf.new seats.In) result }
-    ensures cause { SearchCause (H.faults shelf.old) (H.faults shelf.new) result }
+    ensures cause { ReadingCause code_kind (H.faults shelf.old) (H.faults shelf.new) result }
 {
     for number in 0..SEARCHED {
         let count = match fill_behind(shelf, 0, packet) {

@@ -4,6 +4,7 @@ use Rattle.std.specs.declared.option.Option.{Option}
 use Rattle.std.specs.declared.result.Result.{Result}
 use Rattle.isdbt_base.specs.Outcome.{ArePassed, IsOutcome, product}
 use Rattle.edge_io.specs.declared.shelf.Seat.{Seat}
+use Rattle.edge_io.specs.declared.shelf.Seat.TheVariants as seats
 use Rattle.edge_io.specs.Known.{append_known, ReachesRoom}
 use Rattle.edge_io.specs.Causes.{Rose, Cause, Reading}
 
@@ -136,6 +137,21 @@ FaultCause reads shelf shelf' sink sink' no_memory = (shelf' ≡ shelf) × (sink
 abbrev pub AnswerCause : {X F : Type 0} → (F → FaultKind) → (Seat → Type 0) → (Cause → ℕ) → (Cause → ℕ) → ℕ → ℕ → Result X F → Type 0
 AnswerCause kind reads shelf shelf' sink sink' (Ok x) = (shelf' ≡ shelf) × (sink' ≡ sink)
 AnswerCause kind reads shelf shelf' sink sink' (Err fault) = FaultCause reads shelf shelf' sink sink' (kind fault)
+
+-- when an answer of a command with a lone input may come
+abbrev pub LoneCause : {X F : Type 0} → (F → FaultKind) → (Cause → ℕ) → (Cause → ℕ) → ℕ → ℕ → Result X F → Type 0
+LoneCause kind shelf shelf' sink sink' result = AnswerCause kind (λ seat. seat ≡ seats.In) shelf shelf' sink sink' result
+
+-- when a call may end so that reads a lone input, and neither writes nor asks for memory
+abbrev pub ReadingFault : (Cause → ℕ) → (Cause → ℕ) → FaultKind → Type 0
+ReadingFault shelf shelf' frame_refused = shelf' ≡ shelf
+ReadingFault shelf shelf' (read_failed seat) = (seat ≡ seats.In) × Rose (shelf (Reading seat)) (shelf' (Reading seat))
+ReadingFault shelf shelf' write_failed = ⊥
+ReadingFault shelf shelf' no_memory = ⊥
+
+abbrev pub ReadingCause : {X F : Type 0} → (F → FaultKind) → (Cause → ℕ) → (Cause → ℕ) → Result X F → Type 0
+ReadingCause kind shelf shelf' (Ok x) = shelf' ≡ shelf
+ReadingCause kind shelf shelf' (Err fault) = ReadingFault shelf shelf' (kind fault)
 
 -- a write fault comes only where what was written reaches the sink's room
 abbrev pub FaultRoom : Option ℕ → Option (List ℕ) → FaultKind → Type 0

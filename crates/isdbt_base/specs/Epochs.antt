@@ -1,6 +1,6 @@
 -- The last epoch of a plan, and the end of a frame's epoch.
-use Rattle.std.specs.Prelude.{ℕ, ◌+◌, Bool, true, Option, Some, None, List, [], ◌∷◌, nat_lt}
-use Rattle.isdbt_base.specs.Plans.{Transmission, Schedule, Switch}
+use Rattle.std.specs.Prelude.{ℕ, ◌+◌, Bool, true, ◌&&◌, ◌==◌, Option, Some, None, List, [], ◌∷◌, nat_lt}
+use Rattle.isdbt_base.specs.Plans.{Transmission, Schedule, Switch, at_frame}
 
 -- the first frame of the last epoch
 abbrev pub last_start_from : ℕ → List Switch → ℕ
@@ -22,3 +22,7 @@ last_sent p = last_sent_from p.first p.switches
 abbrev pub leaves_after : ℕ → Option ℕ → ℕ → Bool
 leaves_after f None d = true
 leaves_after f (Some e) d = nat_lt (f + d) e
+
+-- whether an epoch behind the first begins at a frame
+abbrev pub begins_later : Schedule → ℕ → Bool
+begins_later p f = nat_lt 0 f && ((at_frame p f).start == f)

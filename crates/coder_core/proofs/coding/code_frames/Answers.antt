@@ -1,10 +1,12 @@
-use Rattle.std.proofs.Common.{◌≡◌, ◌+◌, ◌*◌, ◌≤◌, ◌<◌, ◌∙◌, length, ap, refl, arith}
+use Rattle.std.proofs.Common.{◌≡◌, ℕ, ◌+◌, ◌*◌, ◌≤◌, ◌<◌, ◌∙◌, length, ap, refl, arith}
 use Rattle.isdbt_base.specs.Numbers.{slots_per_frame}
 use Rattle.edge_io.specs.declared.shelf.Seat.TheVariants as seats
+use Rattle.edge_io.proofs.FrameAnswers.{refused_answer, refused_cause, refused_room, reading_lone, reading_room}
+use Rattle.coder_core.specs.Answers.{code_kind, code_command}
 use Rattle.coder_core.specs.Coder.{mode_of, setting_of}
 use Rattle.coder_core.proofs.PlainFrames.{plain_slots}
-use Rattle.coder_core.proofs.CodeProgress.{begin, turn, Turn, nothing_came, cut_off, frame_refused, is_frame, passed_frame, next, write_failed, read_failed, check_of, cells_are, wrote_all, wrote_some, end_answer, end_cause, end_room}
-use Rattle.coder_core.proofs.RefusalKinds.{refusal-kind, frame_answer, frame_cause, frame_room}
+use Rattle.coder_core.proofs.CodeProgress.{begin, turn, Turn, nothing_came, cut_off, frame_refused, is_frame, passed_frame, next, write_failed, read_failed, check_of, cells_are, wrote_all, wrote_some, end_answer}
+use Rattle.coder_core.proofs.RefusalKinds.{refusal-kind}
 use Rattle.coder_core.proofs.coding.code_frames.Goals as goal
 
 pub loop-number-init : goal.loop-number-init
@@ -61,14 +63,14 @@ returns-in-Err-check-clause-answer g c = λ input found.
     let first : c.from.result + c.from-in-loop-number.result * c.from-slots.result ≡ c.args.head + c.loop-number.number * plain_slots c.args.plan.now = ap (λ n. n + c.from-in-loop-number.result * c.from-slots.result) c.from.ensures ∙ ap (λ n. c.args.head + n * c.from-slots.result) c.from-in-loop-number.ensures ∙ ap (λ n. c.args.head + c.loop-number.number * n) (c.from-slots.ensures ∙ slots) in
     let why = check_of _ c.args.plan.now.first.setting _ c.args.plan.now.first.mode c.loop-number.number _ _ c.fill_behind.new.buf _ c.loop-number.invariant.setting c.loop-number.invariant.mode first c.in-Err-check.ensures.answer in
     let refused = frame_refused _ input _ _ _ _ _ _ _ _ _ c.requires.plain some c.loop-number-test.true size full t why in
-    frame_answer _ input _ _ _ _ c.in-Err-check.fault (refusal-kind _ _ _ _ _ _ c.in-Err-check.ensures.answer) refused
+    refused_answer code_kind (code_command c.args.plan.now input c.args.limit) _ _ _ c.in-Err-check.fault (refusal-kind _ _ _ _ _ _ c.in-Err-check.ensures.answer) refused
 
 pub returns-in-Err-check-clause-cause : goal.returns-in-Err-check-clause-cause
 returns-in-Err-check-clause-cause g c =
-    frame_cause _ _ _ _ c.in-Err-check.fault (refusal-kind _ _ _ _ _ _ c.in-Err-check.ensures.answer) (c.in-Ok.ensures.cause.kept ∙ c.loop-number.invariant.shelf_kept) c.loop-number.invariant.sink_kept
+    refused_cause ℕ code_kind (λ seat. seat ≡ seats.In) _ _ _ _ c.in-Err-check.fault (refusal-kind _ _ _ _ _ _ c.in-Err-check.ensures.answer) (c.in-Ok.ensures.cause.kept ∙ c.loop-number.invariant.shelf_kept) c.loop-number.invariant.sink_kept
 
 pub returns-in-Err-check-clause-reached : goal.returns-in-Err-check-clause-reached
-returns-in-Err-check-clause-reached g c = frame_room _ _ c.in-Err-check.fault (refusal-kind _ _ _ _ _ _ c.in-Err-check.ensures.answer)
+returns-in-Err-check-clause-reached g c = refused_room ℕ code_kind _ _ c.in-Err-check.fault (refusal-kind _ _ _ _ _ _ c.in-Err-check.ensures.answer)
 
 pub returns-in-Err-put_frame-clause-answer : goal.returns-in-Err-put_frame-clause-answer
 returns-in-Err-put_frame-clause-answer g c = λ input found.
@@ -133,10 +135,10 @@ returns-clause-answer g c = λ input found.
     let slots : c.slots.result ≡ plain_slots c.args.plan.now = c.slots.ensures.value ∙ ap (λ m. slots_per_frame m c.guard.result) c.mode.ensures ∙ ap (λ i. slots_per_frame c.args.plan.now.first.mode i) c.guard.ensures in
     let some : 0 < plain_slots c.args.plan.now = omega (arith, slots, c.slots.ensures.least) in
     let none : c.loop-number.held ≡ 0 = c.loop-number.invariant.held_later (omega (arith, end, c.requires.some)) in
-    end_answer _ input _ _ _ _ _ _ _ _ c.end_at_limit.result c.requires.plain some none (rw end at so_far) (rw end at (c.end_at_limit.ensures.answer _ so_far.left_is))
+    end_answer _ input _ _ _ _ _ _ _ _ c.end_at_limit.result c.requires.some c.requires.plain some none (rw end at so_far) (rw end at (c.end_at_limit.ensures.answer _ so_far.left_is))
 
 pub returns-clause-cause : goal.returns-clause-cause
-returns-clause-cause g c = end_cause _ _ _ _ _ c.end_at_limit.result c.loop-number.invariant.shelf_kept c.loop-number.invariant.sink_kept c.end_at_limit.ensures.cause
+returns-clause-cause g c = reading_lone code_kind _ _ _ _ _ c.end_at_limit.result c.loop-number.invariant.shelf_kept c.loop-number.invariant.sink_kept c.end_at_limit.ensures.cause
 
 pub returns-clause-reached : goal.returns-clause-reached
-returns-clause-reached g c = end_room _ _ _ _ c.end_at_limit.result c.end_at_limit.ensures.cause
+returns-clause-reached g c = reading_room code_kind _ _ _ _ c.end_at_limit.result c.end_at_limit.ensures.cause

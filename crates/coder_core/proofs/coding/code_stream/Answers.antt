@@ -1,4 +1,4 @@
-use Rattle.std.proofs.Common.{ℕ, Ok, None, Option, take, subst}
+use Rattle.std.proofs.Common.{ℕ, Ok, None, Option, take, subst, arith}
 use Rattle.edge_io.specs.declared.shelf.Seat.TheVariants as seats
 use Rattle.coder_core.specs.Answers.{SearchAnswer}
 use Rattle.coder_core.proofs.SearchEnds.{empty_input, search_ended}
@@ -12,4 +12,4 @@ returns-in-Ok-None-clause-answer g c = λ input told.
 
 pub returns-in-Err-clause-answer : goal.returns-in-Err-clause-answer
 returns-in-Err-clause-answer g c = λ input told.
-    search_ended _ input _ (take 204 c.find_in.new.frame) _ _ _ _ c.in-Err.fault c.in-Err.ensures.cause (c.in-Err.ensures.answer input told)
+    search_ended _ input _ (take 204 c.find_in.new.frame) _ _ c.in-Err.fault c.requires.plain.no_switch (omega (arith, c.requires.size, c.requires.least)) c.requires.some (c.in-Err.ensures.answer input told)

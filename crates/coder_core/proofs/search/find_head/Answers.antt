@@ -1,7 +1,9 @@
-use Rattle.std.proofs.Common.{◌≡◌, ℕ, ◌*◌, ◌<◌, ◌∙◌, length, refl, sym, ap, subst, arith, length-drop}
+use Rattle.std.proofs.Common.{◌≡◌, ℕ, ◌-◌, ◌*◌, ◌<◌, ◌∙◌, Some, Option, length, refl, sym, ap, subst, arith, length-drop, drop-drop}
 use Rattle.std.proofs.lemmas.List.{length-take-le}
 use Rattle.edge_io.specs.declared.shelf.Seat.TheVariants as seats
-use Rattle.coder_core.proofs.Searching.{begin, Came, came, nothing_first, nothing_more, refused, refused_far, next, found, read_stopped, packet_answer, packet_cause}
+use Rattle.edge_io.proofs.FrameAnswers.{refused_reading}
+use Rattle.coder_core.specs.Answers.{code_kind}
+use Rattle.coder_core.proofs.Searching.{begin, Came, came, nothing_first, nothing_more, refused, refused_far, next, found, read_stopped, search_refused, packet_answer}
 use Rattle.coder_core.proofs.search.find_head.Goals as goal
 
 pub loop-number-init : goal.loop-number-init
@@ -31,7 +33,8 @@ returns-else-number-eq0-clause-answer g c = λ input told.
     let left' = g.H.Shelf.left c.fill_behind.new.shelf seats.In in
     let now : Came input c.loop-number.number c.in-Ok.count c.fill_behind.new.buf left' = came input c.loop-number.number _ c.fill_behind.new.buf _ _ c.in-Ok.count size so_far (c.in-Ok.ensures.answer _ so_far.left_is) in
     let counted = now.count_is in
-    nothing_more input c.loop-number.number _ (omega (arith, c.if-number-eq0.false)) (omega (arith, counted, c.if-count-eq0.true)) so_far
+    let why = nothing_more input c.loop-number.number _ (omega (arith, c.if-number-eq0.false)) (omega (arith, counted, c.if-count-eq0.true)) so_far in
+    search_refused input c.loop-number.number c.in-Ok.count _ _ left' so_far (omega (arith, counted)) (omega (arith, counted, c.loop-number-test.true)) now.left_is why
 
 pub returns-in-Some-clause-answer : goal.returns-in-Some-clause-answer
 returns-in-Some-clause-answer g c = λ input told.
@@ -42,10 +45,11 @@ returns-in-Some-clause-answer g c = λ input told.
     let counted = now.count_is in
     let some : 0 < c.in-Ok.count = omega (arith, c.if-count-eq0.false) in
     let why = c.in-Some.ensures.refusal input c.loop-number-test.true some counted now.front in
-    packet_answer input c.fill_behind.new.buf left' c.in-Some.fault c.in-Some.ensures.kind (refused input c.loop-number.number _ c.in-Some.fault (omega (arith, counted, some)) so_far why)
+    packet_answer input c.fill_behind.new.buf left' c.in-Some.fault c.in-Some.ensures.kind
+    (search_refused input c.loop-number.number c.in-Ok.count _ _ left' so_far (omega (arith, counted)) (omega (arith, counted, c.loop-number-test.true)) now.left_is (refused input c.loop-number.number _ c.in-Some.fault (omega (arith, counted, some)) so_far why))
 
 pub returns-in-Some-clause-cause : goal.returns-in-Some-clause-cause
-returns-in-Some-clause-cause g c = packet_cause _ _ c.in-Some.fault c.in-Some.ensures.kind (c.in-Ok.ensures.cause.kept ∙ c.loop-number.invariant.kept)
+returns-in-Some-clause-cause g c = refused_reading (Option ℕ) code_kind _ _ c.in-Some.fault c.in-Some.ensures.kind (c.in-Ok.ensures.cause.kept ∙ c.loop-number.invariant.kept)
 
 pub returns-then-bears_head-clause-answer : goal.returns-then-bears_head-clause-answer
 returns-then-bears_head-clause-answer g c = λ input told.
@@ -82,7 +86,8 @@ returns-in-Ok-eq0-clause-answer g c = λ input told.
     let last : c.loop-number.number ≡ 65536 = omega (arith, c.loop-number-test.false, c.loop-number.auto.number-end) in
     let rest = length-drop (204 * c.loop-number.number) input in
     let counted = filled.count in
-    nothing_more input c.loop-number.number _ (omega (arith, last)) (omega (arith, counted, one, rest, c.in-Ok-eq0.field-0-test)) so_far
+    let why = nothing_more input c.loop-number.number _ (omega (arith, last)) (omega (arith, counted, one, rest, c.in-Ok-eq0.field-0-test)) so_far in
+    search_refused input c.loop-number.number (c.in-Ok-eq0.field-0 - 0) _ _ _ so_far (omega (arith, c.in-Ok-eq0.field-0-test)) (omega (arith, last, c.in-Ok-eq0.field-0-test)) (filled.left_is ∙ ap Some (drop-drop (c.in-Ok-eq0.field-0 - 0) (204 * c.loop-number.number) input)) why
 
 pub returns-in-Ok-fill_behind-clause-answer : goal.returns-in-Ok-fill_behind-clause-answer
 returns-in-Ok-fill_behind-clause-answer g c = λ input told.
@@ -92,7 +97,8 @@ returns-in-Ok-fill_behind-clause-answer g c = λ input told.
     let last : c.loop-number.number ≡ 65536 = omega (arith, c.loop-number-test.false, c.loop-number.auto.number-end) in
     let rest = length-drop (204 * c.loop-number.number) input in
     let counted = filled.count in
-    refused_far input c.loop-number.number _ last (omega (arith, counted, one, rest, c.in-Ok-fill_behind.field-0-test)) so_far
+    let why = refused_far input c.loop-number.number _ last (omega (arith, counted, one, rest, c.in-Ok-fill_behind.field-0-test)) so_far in
+    search_refused input c.loop-number.number (c.in-Ok-fill_behind.field-0 - 0) _ _ _ so_far (omega (arith, counted, one)) (omega (arith, counted, one, last)) (filled.left_is ∙ ap Some (drop-drop (c.in-Ok-fill_behind.field-0 - 0) (204 * c.loop-number.number) input)) why
 
 pub returns-in-Err-fill_behind-clause-answer : goal.returns-in-Err-fill_behind-clause-answer
 returns-in-Err-fill_behind-clause-answer g c = λ input told.
