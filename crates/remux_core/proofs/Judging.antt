@@ -1,5 +1,5 @@
 -- The faults of packets.
-use Rattle.std.proofs.Common.{◌≡◌, ℕ, None, Some, IfSome, sym, subst}
+use Rattle.std.proofs.Common.{◌≡◌, ℕ, None, Some, IfSome, refl, sym, subst}
 use Rattle.std.specs.declared.option.Option.{Option}
 use Rattle.std.specs.Option.{option_or}
 use Rattle.edge_io.specs.declared.shelf.Seat.{Seat}
@@ -16,11 +16,11 @@ either (Some fault) b ka kb = ka
 of_cut : (seat : Seat) (part : Part) → IfSome (cut_fault seat part) OfPackets
 of_cut seat Good = tt
 of_cut seat (NoSync i) = tt
-of_cut seat (Cut over) = tt
+of_cut seat (Cut over) = refl
 
 of_sync : (seat : Seat) (first : ℕ) (part : Part) → IfSome (sync_fault seat first part) OfPackets
 of_sync seat first Good = tt
-of_sync seat first (NoSync i) = tt
+of_sync seat first (NoSync i) = refl
 of_sync seat first (Cut over) = tt
 
 -- whatever is found first

@@ -1,5 +1,5 @@
 -- Each input packet is placed in one frame.
-use Rattle.std.proofs.Common.{◌≡◌, ℕ, suc, ◌+◌, ◌*◌, ◌/◌, ◌≤◌, ◌<◌, List, arith, inl, inr}
+use Rattle.std.proofs.Common.{◌≡◌, ℕ, suc, ◌+◌, ◌*◌, ◌/◌, ◌≤◌, ◌<◌, List, [], refl, sym, ◌∙◌, arith, inl, inr}
 use Rattle.std.proofs.lemmas.Nat.{div-add-mod', mod_below}
 use Rattle.std.proofs.lemmas.Bool.{cases_lt}
 use Rattle.std.proofs.Math.Nat.{mul-le-mul_right}
@@ -8,8 +8,8 @@ use Rattle.isdbt_base.specs.declared.kinds.Layer.TheVariants.{A, B, C}
 use Rattle.isdbt_base.specs.declared.kinds.Mode.{Mode}
 use Rattle.isdbt_base.specs.Parameters.{Parameters, layer_of, number_of}
 use Rattle.isdbt_base.specs.Numbers.{layer_delay, greatest_delay}
-use Rattle.isdbt_base.specs.Plans.{Schedule}
-use Rattle.remux_core.specs.Multiplex.{packet_count, data_frames, frame_count}
+use Rattle.isdbt_base.specs.Plans.{Schedule, at_frame}
+use Rattle.remux_core.specs.Multiplex.{packet_count, data_frames, frame_count, frame_delay}
 use Rattle.remux_core.specs.Frames.{packets_of}
 use Rattle.remux_core.specs.Answers.{IsPlain, IsPlacedIn, HasPlace}
 use Rattle.remux_core.proofs.Places.{placed_before-one, filled-one, data_frames-more, frame_count-some}
@@ -18,6 +18,13 @@ delay-le : (mode : Mode) (s : Parameters) (x : Layer) → number_of (layer_delay
 delay-le mode s A = omega arith
 delay-le mode s B = omega arith
 delay-le mode s C = omega arith
+
+-- a plan without switches has one epoch
+start-plain : (p : Schedule) (f : ℕ) → p.switches ≡ [] → (at_frame p f).start ≡ 0
+start-plain p f none = rw none refl
+
+delay-plain : (p : Schedule) (f : ℕ) (x : Layer) → p.switches ≡ [] → frame_delay p f x ≡ number_of (layer_delay p.first.mode) (layer_of p.first.setting x)
+delay-plain p f x none = rw none refl
 
 -- rows of t places hold a place once
 one_row : (t i f g : ℕ) → f * t ≤ i → i < f * t + t → g * t ≤ i → i < g * t + t → g ≡ f
@@ -49,7 +56,8 @@ has_place p input x i m plain some all within = record {
   frame = f;
   placed = placed_in p x i f plain from below;
   only = λ other placed. (let row = in_row p x i other plain placed in one_row t i f other from below row.0 row.1);
-  given_out = (let delay = delay-le p.first.mode p.first.setting x in let less = more in let count = frame_count-some p (packet_count input) plain.no_switch (omega (arith, more)) in omega (arith, delay, less, count, all));
+  given_out = (let e = delay-plain p f x plain.no_switch in let delay = delay-le p.first.mode p.first.setting x in let less = more in let count = frame_count-some p (packet_count input) plain.no_switch (omega (arith, more)) in omega (arith, delay, less, count, all, e));
+  same_epoch = start-plain p (f + frame_delay p f x) plain.no_switch ∙ sym (start-plain p f plain.no_switch);
 }
   where
     t : ℕ

@@ -1,25 +1,23 @@
 -- How far the frames of the inputs have come.
 use Rattle.std.proofs.Common.{◌≡◌, ℕ, zero, suc, ◌+◌, ◌-◌, ◌*◌, ◌<◌, ◌≤◌, Bool, true, false, List, [], ◌++◌, length, take, drop, None, Some, Err, vec_len, refl, ap, sym, ◌∙◌, subst, arith, inl, inr}
-use Rattle.std.proofs.lemmas.List.{append-nil, drop_all}
+use Rattle.std.proofs.lemmas.List.{drop_all}
 use Rattle.std.proofs.lemmas.Bool.{cases_lt, cases_Bool, lt-ltb}
 use Rattle.std.specs.declared.option.Option.{Option}
 use Rattle.isdbt_base.specs.declared.kinds.Layer.{Layer}
 use Rattle.isdbt_base.specs.Plans.{Schedule}
-use Rattle.isdbt_base.specs.Outcome.{ArePassed, product}
-use Rattle.isdbt_base.proofs.Products.{product-none, product-more}
 use Rattle.edge_io.specs.declared.shelf.Seat.{Seat}
 use Rattle.edge_io.specs.Known.{append_known}
-use Rattle.edge_io.specs.Causes.{Cause}
-use Rattle.edge_io.proofs.Known.{append_known_twice}
+use Rattle.edge_io.specs.FrameAnswers.{Passed, Wrote, Refused, ReadFailed, WriteFailed, FaultAnswer}
+use Rattle.edge_io.proofs.FrameAnswers.{wrote-none, wrote-more, wrote_part, passed-more, ended-refused}
 use Rattle.remux_core.specs.declared.fault.RemuxFault.{RemuxFault}
-use Rattle.remux_core.specs.declared.fault.RemuxFault.TheVariants.{BadSync, Truncated, ReadFault, WriteFault, TooLong, NoMemory}
+use Rattle.remux_core.specs.declared.fault.RemuxFault.TheVariants.{TooLong}
 use Rattle.remux_core.specs.declared.inputs.Inputs.{Inputs}
 use Rattle.remux_core.specs.Multiplex.{data_frames, frame_count, packet_count, written_frame}
 use Rattle.remux_core.specs.Refusals.{refusal, is_there, seat_of}
 use Rattle.remux_core.specs.Frames.{packets_of}
 use Rattle.remux_core.specs.Judging.{OfPackets}
 use Rattle.remux_core.specs.Parts.{HasSync, IsWhole, IsGood}
-use Rattle.remux_core.specs.Answers.{IsPlain, IsUsed, Tells, Took, bytes_before, Passed, Wrote, Refused, ReadFailed, ReadStopped, WriteFailed, RemuxAnswer, RemuxCause, DataDone}
+use Rattle.remux_core.specs.Answers.{IsPlain, IsUsed, Tells, Took, bytes_before, remux_command, remux_account, TookAtMost, ReadStopped, RemuxAnswer, DataDone}
 use Rattle.remux_core.specs.Reading.{input_of, StandsAt, IsReady, AreRead}
 use Rattle.remux_core.proofs.Places.{placed_before-one, placed_before-zero, data_frames-more, data_frames-most, frame_count-some}
 use Rattle.remux_core.proofs.Refusing.{read_length, synced, refusal-too_long}
@@ -34,8 +32,8 @@ pub record Progress (p : Schedule) (input : Layer → List ℕ) (limit f : ℕ) 
   pub sync : (x : Layer) (k : ℕ) → k < f * packets_of p.first x → 188 * k < length (input x) → HasSync (input x) k
   pub whole : (x : Layer) → (input_of i x).ended ≡ true → IsWhole (input x)
   pub last : (g : ℕ) → f ≡ suc g → HasMore p input g
-  pub passed : Passed p input limit f
-  pub written : Wrote p input f before after
+  pub passed : Passed (remux_command p input limit) f
+  pub written : Wrote (remux_command p input limit) f before after
 
 -- those, and the packets of the next frame were read
 pub record Turn (p : Schedule) (input : Layer → List ℕ) (limit f : ℕ) (i j : Inputs) (left left' : Seat → Option (List ℕ)) (before after : Option (List ℕ)) : Type 0 where
@@ -48,13 +46,6 @@ pub record Turn (p : Schedule) (input : Layer → List ℕ) (limit f : ℕ) (i j
 abbrev pub AreGood : Inputs → Type 0
 AreGood j = (x : Layer) → IsGood (take (input_of j x).count (input_of j x).bytes.items)
 
-append_known_nil : (known : Option (List ℕ)) → append_known known [] ≡ known
-append_known_nil None = refl
-append_known_nil (Some bytes) = ap Some (append-nil bytes)
-
-wrote-none : (p : Schedule) (input : Layer → List ℕ) (before : Option (List ℕ)) → Wrote p input 0 before before
-wrote-none p input before = sym (ap (append_known before) (product-none (written_frame p input)) ∙ append_known_nil before)
-
 -- before the first frame
 pub begin : (p : Schedule) (input : Layer → List ℕ) (limit : ℕ) (i : Inputs) (left : Seat → Option (List ℕ)) (before : Option (List ℕ)) → IsPlain p → ((x : Layer) → vec_len (input_of i x).bytes ≡ 188 * packets_of p.first x) →
     ((x : Layer) → 0 < packets_of p.first x → (input_of i x).ended ≡ false) → ((x : Layer) → packets_of p.first x ≡ 0 → (input_of i x).ended ≡ true) → Tells p left input → Progress p input limit 0 i left before before
@@ -64,7 +55,7 @@ begin p input limit i left before plain room used unused tells = record {
   whole = whole;
   last = λ g e. absurd (omega (arith, e));
   passed = λ f less. absurd (omega (arith, less));
-  written = wrote-none p input before;
+  written = wrote-none (remux_command p input limit) before;
 }
   where
     empty : (x : Layer) → (input_of i x).ended ≡ true → length (input x) ≡ 0
@@ -147,27 +138,9 @@ whole_all p input limit f i j left left' before after t good x ended =
           omega (arith, len, count, past, full, whole))
     ]
 
-pub passed-more : {F : Type 0} (refusal : ℕ → Option F) (there : ℕ → Bool) (f : ℕ) → ArePassed refusal there f → refusal f ≡ None → there f ≡ true → ArePassed refusal there (f + 1)
-passed-more refusal there f so_far fine is g less =
-    elim (cases_lt g f) [
-      | inl below ↦ so_far g below
-      | inr above ↦ (let e : f ≡ g = omega (arith, above, less) in subst (λ h. (refusal h ≡ None) × (there h ≡ true)) e (fine, is))
-    ]
-
-pub wrote-more : (p : Schedule) (input : Layer → List ℕ) (f : ℕ) (before mid after : Option (List ℕ)) → Wrote p input f before mid → after ≡ append_known mid (written_frame p input f) → Wrote p input (f + 1) before after
-wrote-more p input f before mid after so_far wrote =
-    wrote ∙ ap (λ m. append_known m (written_frame p input f)) so_far
-    ∙ append_known_twice before (product (written_frame p input) f) (written_frame p input f)
-    ∙ ap (append_known before) (sym (product-more (written_frame p input) f))
-
-pub wrote_part : (p : Schedule) (input : Layer → List ℕ) (f n : ℕ) (before mid after : Option (List ℕ)) → Wrote p input f before mid → after ≡ append_known mid (take n (written_frame p input f)) →
-    after ≡ append_known before (product (written_frame p input) f ++ take n (written_frame p input f))
-wrote_part p input f n before mid after so_far wrote =
-    wrote ∙ ap (λ m. append_known m (take n (written_frame p input f))) so_far ∙ append_known_twice before (product (written_frame p input) f) (take n (written_frame p input f))
-
-passed_turn : (p : Schedule) (input : Layer → List ℕ) (limit f : ℕ) (i j : Inputs) (left left' : Seat → Option (List ℕ)) (before after : Option (List ℕ)) → IsPlain p → Turn p input limit f i j left left' before after → refusal p input limit f ≡ None → HasMore p input f → Passed p input limit (f + 1)
+passed_turn : (p : Schedule) (input : Layer → List ℕ) (limit f : ℕ) (i j : Inputs) (left left' : Seat → Option (List ℕ)) (before after : Option (List ℕ)) → IsPlain p → Turn p input limit f i j left left' before after → refusal p input limit f ≡ None → HasMore p input f → Passed (remux_command p input limit) (f + 1)
 passed_turn p input limit f i j left left' before after plain t fine more =
-    passed-more (refusal p input limit) (is_there p input) f t.so_far.passed fine (there-with_data p input f plain more)
+    passed-more (remux_command p input limit) f t.so_far.passed fine (there-with_data p input f plain more)
 
 pub next : (p : Schedule) (input : Layer → List ℕ) (limit f : ℕ) (i j : Inputs) (left left' : Seat → Option (List ℕ)) (before mid after : Option (List ℕ)) → IsPlain p → Turn p input limit f i j left left' before mid → AreGood j → refusal p input limit f ≡ None → HasMore p input f →
     after ≡ append_known mid (written_frame p input f) → Progress p input limit (f + 1) j left' before after
@@ -183,7 +156,7 @@ next p input limit f i j left left' before mid after plain t good fine more wrot
   whole = whole_all p input limit f i j left left' before mid t good;
   last = λ g e. (let k : f ≡ g = omega (arith, e) in subst (HasMore p input) k more);
   passed = passed_turn p input limit f i j left left' before mid plain t fine more;
-  written = wrote-more p input f before mid after t.so_far.written wrote;
+  written = wrote-more (remux_command p input limit) f before mid after t.so_far.written wrote;
 }
 
 -- ---- the inputs have ended
@@ -205,7 +178,7 @@ last_frame p input limit f i j left left' before mid after plain t good fine mor
   };
   frames_is = data_frames-all p input (f + 1) plain all (λ g e. (let k : f ≡ g = omega (arith, e) in subst (HasMore p input) k more));
   passed = passed_turn p input limit f i j left left' before mid plain t fine more;
-  written = wrote-more p input f before mid after t.so_far.written wrote;
+  written = wrote-more (remux_command p input limit) f before mid after t.so_far.written wrote;
   left_is = left_none p input f left' plain.no_switch t.read.left_is all;
 }
   where
@@ -236,54 +209,51 @@ nothing_more p input limit f i j left left' before after plain t none = record {
 
 -- ---- refusals and faults
 
-pub refused : (p : Schedule) (input : Layer → List ℕ) (limit f : ℕ) (i j : Inputs) (left left' : Seat → Option (List ℕ)) (before after : Option (List ℕ)) (fault : RemuxFault) → Turn p input limit f i j left left' before after → refusal p input limit f ≡ Some fault → Refused p input limit fault before after
-refused p input limit f i j left left' before after fault t is = (
-  f,
-  record { outcome = record { before = t.so_far.passed; at = is; done = λ e. absurd (cc) }; written = t.so_far.written },
-)
+-- the packets of frame f were read, and no more
+pub took_frame : (p : Schedule) (input : Layer → List ℕ) (f : ℕ) (left : Seat → Option (List ℕ)) → Took p left input (bytes_before p (f + 1)) → TookAtMost p left input (f + 1)
+took_frame p input f left took = record { taken = bytes_before p (f + 1); left_is = took; most = λ x used. omega arith }
 
-pub read_failed : (p : Schedule) (input : Layer → List ℕ) (limit f : ℕ) (i : Inputs) (left left' : Seat → Option (List ℕ)) (before after : Option (List ℕ)) (seat : Seat) → f < limit → Progress p input limit f i left before after → ReadStopped p input f left' seat → ReadFailed p input limit before after left' seat
-read_failed p input limit f i left left' before after seat less so_far stopped = record { frame = f; within = less; passed = so_far.passed; written = so_far.written; stopped = stopped }
+pub refused : (p : Schedule) (input : Layer → List ℕ) (limit f : ℕ) (i j : Inputs) (left left' : Seat → Option (List ℕ)) (before after : Option (List ℕ)) (fault : RemuxFault) → Turn p input limit f i j left left' before after → refusal p input limit f ≡ Some fault
+    → Refused (remux_command p input limit) (TookAtMost p left' input) fault before after
+refused p input limit f i j left left' before after fault t is = record {
+  frame = f;
+  ended = ended-refused (remux_command p input limit) f fault before after t.so_far.passed t.so_far.written is;
+  account = took_frame p input f left' t.read.left_is;
+}
+
+pub read_failed : (p : Schedule) (input : Layer → List ℕ) (limit f : ℕ) (i : Inputs) (left left' : Seat → Option (List ℕ)) (before after : Option (List ℕ)) (seat : Seat) → f < limit → Progress p input limit f i left before after → ReadStopped p input f left' seat
+    → ReadFailed (remux_command p input limit) (λ g seat. (g < limit) × ReadStopped p input g left' seat) seat before after
+read_failed p input limit f i left left' before after seat less so_far stopped = record { frame = f; passed = so_far.passed; written = so_far.written; account = (less, stopped) }
 
 pub write_failed : (p : Schedule) (input : Layer → List ℕ) (limit f n : ℕ) (i j : Inputs) (left left' : Seat → Option (List ℕ)) (before mid after : Option (List ℕ)) → IsPlain p → Turn p input limit f i j left left' before mid → refusal p input limit f ≡ None → HasMore p input f →
-    n < length (written_frame p input f) → after ≡ append_known mid (take n (written_frame p input f)) → WriteFailed p input limit before after left'
+    n < length (written_frame p input f) → after ≡ append_known mid (take n (written_frame p input f)) → WriteFailed (remux_command p input limit) (λ g. Took p left' input (bytes_before p g)) before after
 write_failed p input limit f n i j left left' before mid after plain t fine more short wrote = record {
   frame = f;
   sent = n;
   passed = passed_turn p input limit f i j left left' before mid plain t fine more;
   short = short;
-  written = wrote_part p input f n before mid after t.so_far.written wrote;
-  left_is = t.read.left_is;
+  written = wrote_part (remux_command p input limit) f n before mid after t.so_far.written wrote;
+  account = t.read.left_is;
 }
 
-pub too_long : (p : Schedule) (input : Layer → List ℕ) (limit : ℕ) (i : Inputs) (left : Seat → Option (List ℕ)) (before after : Option (List ℕ)) → IsPlain p → 0 < limit → Progress p input limit limit i left before after → Refused p input limit TooLong before after
+-- fewer packets are placed before a frame than before the next
+bytes-rise : (p : Schedule) (f : ℕ) (x : Layer) → p.switches ≡ [] → bytes_before p f x ≤ bytes_before p (f + 1) x
+bytes-rise p f x none =
+    let a = placed_before-one p x f none in
+    let b = placed_before-one p x (f + 1) none in
+    omega (arith, a, b)
+
+pub too_long : (p : Schedule) (input : Layer → List ℕ) (limit : ℕ) (i : Inputs) (left : Seat → Option (List ℕ)) (before after : Option (List ℕ)) → IsPlain p → 0 < limit → Progress p input limit limit i left before after
+    → Refused (remux_command p input limit) (TookAtMost p left input) TooLong before after
 too_long p input limit i left before after plain more so_far =
     let last : limit ≡ suc (limit - 1) = omega (arith, more) in
-    let there = there-next p input (limit - 1) plain (so_far.last (limit - 1) last) in (
-      limit,
-      record {
-        outcome = record {
-          before = so_far.passed;
-          at = refusal-too_long p input limit (lt-ltb limit (frame_count p (packet_count input)) (omega (arith, there, last)));
-          done = λ e. absurd (cc);
-        };
-        written = so_far.written;
-      },
-    )
+    let there = there-next p input (limit - 1) plain (so_far.last (limit - 1) last) in
+    record {
+      frame = limit;
+      ended = ended-refused (remux_command p input limit) limit TooLong before after so_far.passed so_far.written (refusal-too_long p input limit (lt-ltb limit (frame_count p (packet_count input)) (omega (arith, there, last))));
+      account = record { taken = bytes_before p limit; left_is = so_far.ready.left_is; most = λ x used. bytes-rise p limit x plain.no_switch };
+    }
 
 -- an answer to a fault of packets
-pub packets_refused : (p : Schedule) (input : Layer → List ℕ) (limit : ℕ) (before after : Option (List ℕ)) (left : Seat → Option (List ℕ)) (fault : RemuxFault) → OfPackets fault → Refused p input limit fault before after → RemuxAnswer p input limit before after left (Err fault)
-packets_refused p input limit before after left (BadSync seat packet) kind says = says
-packets_refused p input limit before after left (Truncated seat over) kind says = says
-packets_refused p input limit before after left (ReadFault seat) kind says = absurd kind
-packets_refused p input limit before after left WriteFault kind says = absurd kind
-packets_refused p input limit before after left TooLong kind says = absurd kind
-packets_refused p input limit before after left NoMemory kind says = absurd kind
-
-pub packets_cause : (p : Schedule) (shelf shelf' : Cause → ℕ) (sink sink' : ℕ) (fault : RemuxFault) → OfPackets fault → shelf' ≡ shelf → sink' ≡ sink → RemuxCause p shelf shelf' sink sink' (Err fault)
-packets_cause p shelf shelf' sink sink' (BadSync seat packet) kind same kept = (same, kept)
-packets_cause p shelf shelf' sink sink' (Truncated seat over) kind same kept = (same, kept)
-packets_cause p shelf shelf' sink sink' (ReadFault seat) kind same kept = absurd kind
-packets_cause p shelf shelf' sink sink' WriteFault kind same kept = absurd kind
-packets_cause p shelf shelf' sink sink' TooLong kind same kept = absurd kind
-packets_cause p shelf shelf' sink sink' NoMemory kind same kept = absurd kind
+pub packets_refused : (p : Schedule) (input : Layer → List ℕ) (limit : ℕ) (before after : Option (List ℕ)) (left : Seat → Option (List ℕ)) (fault : RemuxFault) → OfPackets fault → Refused (remux_command p input limit) (TookAtMost p left input) fault before after → RemuxAnswer p input limit before after left (Err fault)
+packets_refused p input limit before after left fault kind says = subst (FaultAnswer (remux_command p input limit) (remux_account p input limit left) before after fault) (sym kind) says

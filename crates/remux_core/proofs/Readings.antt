@@ -127,11 +127,12 @@ pub record StopAt (seat : Seat) (old : LayerInput) (left left' : Seat → Option
   pub count : ℕ
   pub few : count < vec_len old.bytes
   pub taken : left' seat ≡ drop_known count (left seat)
+  pub within : IfSome (left seat) (λ bytes. count ≤ length bytes)
   pub others : OthersKeep seat left left'
 
-pub stop_at : (seat : Seat) (old new : LayerInput) (left left' : Seat → Option (List ℕ)) → old.seat ≡ seat → old.ended ≡ false → vec_len new.bytes ≡ vec_len old.bytes → ((n : ℕ) × (n < vec_len new.bytes) × (left' old.seat ≡ drop_known n (left old.seat))) → OthersKeep old.seat left left' → StopAt seat old left left'
+pub stop_at : (seat : Seat) (old new : LayerInput) (left left' : Seat → Option (List ℕ)) → old.seat ≡ seat → old.ended ≡ false → vec_len new.bytes ≡ vec_len old.bytes → ((n : ℕ) × (n < vec_len new.bytes) × (left' old.seat ≡ drop_known n (left old.seat)) × IfSome (left old.seat) (λ bytes. n ≤ length bytes)) → OthersKeep old.seat left left' → StopAt seat old left left'
 stop_at seat old new left left' e goes room some others =
-    subst (λ (s : Seat). StopAt s old left left') e (record { goes = goes; count = some.0; few = (let k = some.1 in omega (arith, k, room)); taken = some.2; others = others })
+    subst (λ (s : Seat). StopAt s old left left') e (record { goes = goes; count = some.0; few = (let k = some.1 in omega (arith, k, room)); taken = some.2; within = some.3; others = others })
 
 stopped : (p : Schedule) (input : Layer → List ℕ) (f : ℕ) (i : Inputs) (x : Layer) (left mid mid' : Seat → Option (List ℕ)) → IsReady p input f i left → mid (seat_of x) ≡ left (seat_of x) → StopAt (seat_of x) (input_of i x) mid mid' →
     ((y : Layer) → IsUsed p y → place_of y < place_of x → mid' (seat_of y) ≡ Some (drop (bytes_before p (f + 1) y) (input y))) → ((y : Layer) → IsUsed p y → place_of x < place_of y → mid' (seat_of y) ≡ Some (drop (bytes_before p f y) (input y))) → ReadStopped p input f mid' (seat_of x)
@@ -141,13 +142,19 @@ stopped p input f i x left mid mid' ready same stop earlier later =
     let b' = before p (f + 1) x ready.no_switch in
     let room = ready.room x in
     let few = stop.few in
+    let left_is = same ∙ ready.left_is x used in
+    let P : Option (List ℕ) → Type 0 = λ o. IfSome o (λ bytes. stop.count ≤ length bytes) in
+    let rest : stop.count ≤ length (drop (bytes_before p f x) (input x)) = subst P left_is stop.within in
+    let size = length-drop (bytes_before p f x) (input x) in
+    let full = (ready.stands x).goes_on stop.goes in
     record {
       layer = x;
       seat_is = refl;
       taken = bytes_before p f x + stop.count;
+      within = omega (arith, rest, size, full, b);
       from = omega arith;
       below = omega (arith, b, b', room, few);
-      left_is = stop.taken ∙ ap (drop_known stop.count) (same ∙ ready.left_is x used) ∙ ap Some (drop-drop stop.count (bytes_before p f x) (input x));
+      left_is = stop.taken ∙ ap (drop_known stop.count) left_is ∙ ap Some (drop-drop stop.count (bytes_before p f x) (input x));
       earlier = earlier;
       later = later;
     }

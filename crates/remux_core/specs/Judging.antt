@@ -1,9 +1,11 @@
 -- The first cause to refuse a frame for its packets.
-use Rattle.std.specs.Prelude.{ℕ, ◌+◌, Some, None, ⊤}
+use Rattle.std.specs.Prelude.{◌≡◌, ℕ, ◌+◌, Some, None}
 use Rattle.std.specs.declared.option.Option.{Option}
 use Rattle.edge_io.specs.declared.shelf.Seat.{Seat}
 use Rattle.remux_core.specs.declared.fault.RemuxFault.{RemuxFault}
-use Rattle.remux_core.specs.declared.fault.RemuxFault.TheVariants.{BadSync, Truncated, ReadFault, WriteFault, TooLong, NoMemory}
+use Rattle.remux_core.specs.declared.fault.RemuxFault.TheVariants.{BadSync, Truncated}
+use Rattle.edge_io.specs.FrameAnswers.{frame_refused}
+use Rattle.remux_core.specs.Answers.{remux_kind}
 use Rattle.remux_core.specs.declared.packets.Part.{Part}
 use Rattle.remux_core.specs.declared.packets.Part.TheVariants.{Good, NoSync, Cut}
 
@@ -19,11 +21,6 @@ sync_fault seat first Good = None
 sync_fault seat first (NoSync i) = Some (BadSync seat (first + i))
 sync_fault seat first (Cut over) = None
 
--- a fault of packets
+-- a frame is refused for its packets
 abbrev pub OfPackets : RemuxFault → Type 0
-OfPackets (BadSync seat packet) = ⊤
-OfPackets (Truncated seat over) = ⊤
-OfPackets (ReadFault seat) = ⊥
-OfPackets WriteFault = ⊥
-OfPackets TooLong = ⊥
-OfPackets NoMemory = ⊥
+OfPackets fault = remux_kind fault ≡ frame_refused

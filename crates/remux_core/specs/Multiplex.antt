@@ -20,6 +20,10 @@ use Rattle.frame_order.specs.OrderedFrame.{ordered_frame}
 abbrev pub layer_at : Schedule → ℕ → Layer → Option LayerParameters
 layer_at p f x = layer_of (at_frame p f).setting x
 
+-- the delay of a layer in the setting of a frame, and 0 where it isn't used there
+abbrev pub frame_delay : Schedule → ℕ → Layer → ℕ
+frame_delay p f x = number_of (layer_delay (at_frame p f).mode) (layer_at p f x)
+
 -- how many input packets a frame places of a layer: its packets where they will be given out within the epoch, else none
 abbrev pub filled : Schedule → Layer → ℕ → ℕ
 filled p x f = number_of (λ l. if leaves_after f (at_frame p f).end (layer_delay (at_frame p f).mode l) then packets_per_frame (at_frame p f).mode l else 0) (layer_at p f x)

@@ -56,7 +56,8 @@ impl LayerInput {
 
         ensures taken { OnOk result (H.left shelf.new self.old.seat ≡ drop_known self.new.count (H.left shelf.old self.old.seat)) }
         ensures copied { OnOk result (IfSome (H.left shelf.old self.old.seat) (λ bytes. take self.new.count self.new.bytes.items ≡ take self.new.count bytes)) }
-        ensures some { OnErr result ((n : ℕ) × (n < vec_len self.new.bytes) × (H.left shelf.new self.old.seat ≡ drop_known n (H.left shelf.old self.old.seat))) }
+        ensures some { OnErr result ((n : ℕ) × (n < vec_len self.new.bytes) × (H.left shelf.new self.old.seat ≡ drop_known n (H.left shelf.old self.old.seat))
+            × IfSome (H.left shelf.old self.old.seat) (λ bytes. n ≤ length bytes)) }
         ensures other_left { OthersKeep self.old.seat (H.left shelf.old) (H.left shelf.new) }
         ensures still_open { H.is_open shelf.new ≡ H.is_open shelf.old }
         ensures cause { ShelfCause (Reading self.old.seat) (H.faults shelf.old) (H.faults shelf.new) result }

@@ -5,7 +5,8 @@ ghost use Rattle.std.specs.declared.option.Option.{Option};
 ghost use Rattle.isdbt_base.specs.declared.kinds.Layer.{Layer as Which};
 ghost use Rattle.isdbt_base.specs.Numbers.{slots_per_frame, greatest_delay};
 ghost use Rattle.frame_order.specs.LayerBytes.{layer_bytes, AreWhole};
-ghost use Rattle.remux_core.specs.Answers.{IsPlain, IsUsed, Tells, Passed, Wrote, RemuxAnswer, RemuxCause, RoomAnswer, DataAnswer, DrainAnswer, DrainCause};
+ghost use Rattle.edge_io.specs.FrameAnswers.{Passed, Wrote, AnswerRoom};
+ghost use Rattle.remux_core.specs.Answers.{IsPlain, IsUsed, Tells, remux_kind, remux_command, RemuxAnswer, RemuxCause, DataAnswer, DrainAnswer, DrainCause};
 ghost use Rattle.remux_core.specs.Frames.{packets_of};
 ghost use Rattle.remux_core.specs.Multiplex.{packet_count, data_frames};
 ghost use Rattle.remux_core.specs.Parts.{IsGood};
@@ -76,7 +77,7 @@ fn write_data<H: Shelf, K: Sink>(
     ensures still_open { H.is_open shelf.new ≡ H.is_open shelf.old }
     ensures cause { RemuxCause plan.now (H.faults shelf.old) (H.faults shelf.new) (K.faults sink.old) (K.faults sink.new) result }
     ensures room { K.room sink.new ≡ K.room sink.old }
-    ensures reached { RoomAnswer (K.room sink.old) (K.written sink.new) result }
+    ensures reached { AnswerRoom remux_kind (K.room sink.old) (K.written sink.new) result }
 {
     for frame in 0..limit {
         match inputs.read(shelf) {
@@ -119,11 +120,11 @@ fn drain<K: Sink>(
     requires frames { frames ≤ limit }
     requires few { limit ≤ 16777216 }
     ensures answer { (input : Which → List ℕ) (before : Option (List ℕ)) → ((x : Which) → packets_of plan.now.first x ≡ 0 → input x ≡ [])
-        → frames ≡ data_frames plan.now (packet_count input) → Passed plan.now input limit frames → Wrote plan.now input frames before (K.written sink.old)
+        → frames ≡ data_frames plan.now (packet_count input) → Passed (remux_command plan.now input limit) frames → Wrote (remux_command plan.now input limit) frames before (K.written sink.old)
         → DrainAnswer plan.now input limit before (K.written sink.new) result }
     ensures cause { DrainCause (K.faults sink.old) (K.faults sink.new) result }
     ensures room { K.room sink.new ≡ K.room sink.old }
-    ensures reached { RoomAnswer (K.room sink.old) (K.written sink.new) result }
+    ensures reached { AnswerRoom remux_kind (K.room sink.old) (K.written sink.new) result }
 {
     if frames == 0 {
         return Ok(0);
@@ -163,7 +164,7 @@ pub fn remux<H: Shelf, K: Sink>(
 
     // The sink's room stays, and a write fails only where what was written reaches it.
     ensures room { K.room sink.new ≡ K.room sink.old }
-    ensures reached { RoomAnswer (K.room sink.old) (K.written sink.new) result }
+    ensures reached { AnswerRoom remux_kind (K.room sink.old) (K.written sink.new) result }
 {
     plan.acceptance_law();
     let at = plan.at(0);

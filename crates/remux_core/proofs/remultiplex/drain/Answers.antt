@@ -14,7 +14,7 @@ pub returns-then-frame-limit-clause-answer : goal.returns-then-frame-limit-claus
 returns-then-frame-limit-clause-answer g c = λ input before none is passed wrote.
     let here : c.loop-frame.frame ≡ c.args.limit = omega arith in
     let so_far = c.loop-frame.invariant.told input before none is passed wrote in
-    drain_too_long _ input _ _ _ before _ c.requires.plain (omega arith) is c.requires.delay (omega arith) (rw here at so_far)
+    drain_too_long _ input _ _ _ before _ c.requires.plain (omega arith) is c.requires.delay c.requires.frames (omega arith) (rw here at so_far)
 
 pub returns-in-Err-clause-answer : goal.returns-in-Err-clause-answer
 returns-in-Err-clause-answer g c = λ input before none is passed wrote.
