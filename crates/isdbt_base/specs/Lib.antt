@@ -7,3 +7,4 @@ pub mod Numbers
 pub mod Frames
 pub mod Refusals
 pub mod Outcome
+pub mod Heads

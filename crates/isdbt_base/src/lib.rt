@@ -1,10 +1,12 @@
 //! Parameters of an ISDB-T transmission: modes, guard intervals, the settings of the layers, plans of settings over
-//! the frames, and the numbers that follow from them (ARIB STD-B31 3.1).
+//! the frames, and the numbers that follow from them (ARIB STD-B31 3.1). Also the head of a frame of cells, which says
+//! mode and guard interval in a layout of this project's own.
 //!
 //! Frames, symbols, segments, slots and packets are counted from 0. No call takes memory.
 #![tactic(auto)]
 
 mod epoch;
+mod head;
 mod kinds;
 mod layer_setting;
 mod memory;
@@ -14,6 +16,7 @@ mod setting;
 mod used;
 
 pub use epoch::At;
+pub use head::{HeadFault, guard_byte, guard_in, head_of, mode_byte, mode_in, read_head};
 pub use kinds::{DepthCode, Guard, Layer, Mode, Modulation, Rate};
 pub use layer_setting::LayerSetting;
 pub use memory::NoMemory;

@@ -17,7 +17,7 @@ use Rattle.tmcc_word.specs.declared.layer_bits.LayerBits.{LayerBits}
 use Rattle.tmcc_word.specs.declared.layer_bits.LayerBits.TheVariants.{Unused, Used, Refused}
 use Rattle.tmcc_word.specs.Fields.{TmccFields, FitsWord, IsAcceptedIfAny}
 use Rattle.tmcc_word.specs.CyclicCode.{remainder}
-use Rattle.tmcc_word.specs.Reading.{field, flag, odd_in, modulation_in, rate_in, depth_in, layer_of_codes, layer_field_at, of_13_segments, setting_with_a, setting_of, setting_at, ok_part, with_now, with_sync, read}
+use Rattle.tmcc_word.specs.Reading.{field, flag, odd_in, modulation_in, rate_in, depth_in, layer_of_codes, layer_field_at, of_13_segments, setting_with_a, setting_of, setting_at, ok_part, with_now, info_at, with_info, with_sync, read}
 
 -- a layer that is used has segments
 IsFine : LayerBits → Type 0
@@ -92,31 +92,41 @@ countdown-lt word at =
     let most = bits_number-lt (length bits) bits refl in
     omega (arith, least, most)
 
-fields-fit : (word : List Bool) (s : Parameters) → IsAccepted s → FitsWord (record { start_up = flag word 26; countdown = field word 22 4; now = s; next = ok_part (setting_at word 67) })
-fields-fit word s h = record {
-  countdown = countdown-lt word 22;
+fields-fit : (word : List Bool) (at : ℕ) (s : Parameters) → IsAccepted s → FitsWord (record { start_up = flag word (at + 6); countdown = field word (at + 2) 4; now = s; next = ok_part (setting_at word (at + 47)) })
+fields-fit word at s h = record {
+  countdown = countdown-lt word (at + 2);
   now = h;
-  next = ok_part-accepted (setting_at word 67) (setting_at-accepted word 67);
+  next = ok_part-accepted (setting_at word (at + 47)) (setting_at-accepted word (at + 47));
 }
 
 not_refused : {X F : Type 0} (b : Bool) (fault : F) (r : Result X F) (x : X) → cond b (Err fault) r ≡ Ok x → r ≡ Ok x
 not_refused true fault r x e = cc
 not_refused false fault r x e = e
 
-fields_of : TmccFields → Result (TmccFields × Bool) TmccFault → TmccFields
-fields_of i (Ok p) = p.0
+fields_of : TmccFields → Result TmccFields TmccFault → TmccFields
+fields_of i (Ok j) = j
 fields_of i (Err fault) = i
 
-with_now-fits : (word : List Bool) (odd : Bool) (r : Result Parameters TmccFault) (i : TmccFields × Bool) → ((s : Parameters) → r ≡ Ok s → IsAccepted s) → with_now word odd r ≡ Ok i → FitsWord i.0
+with_now-fits : (word : List Bool) (at : ℕ) (r : Result Parameters TmccFault) (i : TmccFields) → ((s : Parameters) → r ≡ Ok s → IsAccepted s) → with_now word at r ≡ Ok i → FitsWord i
 unfolding fields_of
-with_now-fits word odd (Err fault) i h e = cc
-with_now-fits word odd (Ok s) i h e = subst FitsWord (ap (fields_of i.0) e) (fields-fit word s (h s refl))
+with_now-fits word at (Err fault) i h e = cc
+with_now-fits word at (Ok s) i h e = subst FitsWord (ap (fields_of i) e) (fields-fit word at s (h s refl))
+
+-- what is read of 102 bits of information fits a word
+pub info-fits : (word : List Bool) (at : ℕ) (i : TmccFields) → info_at word at ≡ Ok i → FitsWord i
+unfolding info_at
+info-fits word at i e =
+    with_now-fits word at (setting_at word (at + 7)) i (setting_at-accepted word (at + 7)) (not_refused (not (field word at 2 == 0)) faults.System _ i e)
+
+with_info-is : (odd : Bool) (r : Result TmccFields TmccFault) (i : TmccFields × Bool) → with_info odd r ≡ Ok i → r ≡ Ok i.0
+with_info-is odd (Err fault) i e = cc
+with_info-is odd (Ok j) i e = cc
 
 with_sync-fits : (word : List Bool) (o : Option Bool) (i : TmccFields × Bool) → with_sync word o ≡ Ok i → FitsWord i.0
 with_sync-fits word None i e = cc
 with_sync-fits word (Some odd) i e =
-    with_now-fits word odd (setting_at word 27) i (setting_at-accepted word 27)
-    (not_refused (not (field word 20 2 == 0)) faults.System _ i
+    info-fits word 20 i.0
+    (with_info-is odd (info_at word 20) i
     (not_refused (not (remainder 102 (field word 20 184) == 0)) faults.Parity _ i
     (not_refused (not (field word 17 3 == 0)) faults.SegmentType _ i e)))
 

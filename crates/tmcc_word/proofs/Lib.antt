@@ -6,3 +6,4 @@ pub mod Codewords
 pub mod ReadBack
 pub mod Accepted
 pub mod WorkedWords
+pub mod CausesOfInformation

@@ -1,7 +1,7 @@
 -- A word reads as the record and the parity of which it is made.
-use Rattle.std.proofs.Common.{◌≡◌, ℕ, ◌+◌, ◌*◌, ◌^◌, ◌<◌, Bool, true, false, refl, arith, ap, sym, ◌∙◌, subst, List, [], ◌∷◌, ◌++◌, length, drop, append_assoc, length-append, replicate, lit<, Option, Some, None, Ok, rules}
-use Rattle.std.specs.Prelude.{not, ◌&&◌, ◌==◌}
-use Rattle.std.proofs.lemmas.List.{append-nil, drop_at}
+use Rattle.std.proofs.Common.{◌≡◌, ℕ, ◌+◌, ◌*◌, ◌^◌, ◌<◌, Bool, true, false, refl, arith, ap, sym, ◌∙◌, subst, List, [], ◌∷◌, ◌++◌, length, take, drop, append_assoc, length-append, replicate, lit<, Option, Some, None, Ok, rules}
+use Rattle.std.specs.Prelude.{not, ◌&&◌, ◌==◌, slice_range}
+use Rattle.std.proofs.lemmas.List.{append-nil, drop_at, take_at}
 use Rattle.std.proofs.lemmas.Bool.{eq-eqb, ne_eqb, le-leb}
 use Rattle.isdbt_base.specs.declared.kinds.Modulation.{Modulation}
 use Rattle.isdbt_base.specs.declared.kinds.Modulation.TheVariants.{Qpsk, Qam16, Qam64}
@@ -18,7 +18,7 @@ use Rattle.tmcc_word.specs.declared.layer_bits.LayerBits.TheVariants.{Unused, Us
 use Rattle.tmcc_word.specs.Fields.{TmccFields, FitsWord, IsAcceptedIfAny}
 use Rattle.tmcc_word.specs.CyclicCode.{IsCodeword, parity_of, remainder}
 use Rattle.tmcc_word.specs.Words.{modulation_code, rate_code, depth_code, layer_field, setting_field, next_field, sync_code, information_bits, word_of}
-use Rattle.tmcc_word.specs.Reading.{field, flag, odd_in, modulation_in, rate_in, depth_in, layer_of_codes, layer_field_at, setting_with_a, of_13_segments, setting_at, ok_part, read}
+use Rattle.tmcc_word.specs.Reading.{field, flag, odd_in, modulation_in, rate_in, depth_in, layer_of_codes, layer_field_at, setting_with_a, of_13_segments, setting_at, ok_part, info_at, read}
 use Rattle.tmcc_word.proofs.Remainders.{parity-multiple}
 use Rattle.tmcc_word.proofs.Codewords.{codeword-parity}
 use Rattle.tmcc_word.proofs.Standing.{Stands, stands-front, stands-back, field-stands, flag-stands, field-number}
@@ -188,12 +188,16 @@ zeros_two : bits_number (false ∷ false ∷ []) ≡ 0
 unfolding number_from
 zeros_two = refl
 
--- what a word says whose fields are these
-read-from : (word : List Bool) (i : TmccFields) (odd : Bool) → field word 1 16 ≡ sync_code odd → field word 17 3 ≡ 0 → remainder 102 (field word 20 184) ≡ 0 → field word 20 2 ≡ 0 →
-    setting_at word 27 ≡ Ok i.now → ok_part (setting_at word 67) ≡ i.next → field word 22 4 ≡ i.countdown → flag word 26 ≡ i.start_up → read word ≡ Ok (i, odd)
+-- what the information says whose fields are these
+info-from : (word : List Bool) (at : ℕ) (i : TmccFields) → field word at 2 ≡ 0 →
+    setting_at word (at + 7) ≡ Ok i.now → ok_part (setting_at word (at + 47)) ≡ i.next → field word (at + 2) 4 ≡ i.countdown → flag word (at + 6) ≡ i.start_up → info_at word at ≡ Ok i
+unfolding info_at
+info-from word at i system now next countdown start_up = rw (system, now, next, countdown, start_up) refl
+
+-- what a word says whose parts are these
+read-from : (word : List Bool) (i : TmccFields) (odd : Bool) → field word 1 16 ≡ sync_code odd → field word 17 3 ≡ 0 → remainder 102 (field word 20 184) ≡ 0 → info_at word 20 ≡ Ok i → read word ≡ Ok (i, odd)
 unfolding read
-read-from word i odd sync kind parity system now next countdown start_up =
-    rw (sync, sync-back odd, kind, parity, system, now, next, countdown, start_up) refl
+read-from word i odd sync kind parity info = rw (sync, sync-back odd, kind, parity, info) refl
 
 record Whole (i : TmccFields) (odd : Bool) : Type 0 where
   sync : Stands (word_of i odd) 0 (false ∷ number_bits 16 (sync_code odd))
@@ -240,22 +244,38 @@ information word at i st =
       next = stands-back word at (at + 47) (front ++ now) (next_field i.next) (let e = length-append front now in omega (arith, e, size, length-setting_field i.now)) a;
     }
 
+-- the information reads as the record wherever it stands
+info-stands : (word : List Bool) (at : ℕ) (i : TmccFields) → FitsWord i → Stands word at (information_bits i) → info_at word at ≡ Ok i
+info-stands word at i fits st =
+    let parts = information word at i st in
+    info-from word at i
+    (field-stands word at 2 (false ∷ false ∷ []) refl parts.system ∙ zeros_two)
+    (setting-stands word (at + 7) i.now fits.now (stands-back word (at + 6) (at + 7) (i.start_up ∷ []) (setting_field i.now) (omega arith) parts.start_up))
+    (next-stands word (at + 47) i.next fits.next parts.next)
+    (field-number word (at + 2) 4 i.countdown fits.countdown parts.countdown)
+    (flag-stands word (at + 6) i.start_up (setting_field i.now) parts.start_up)
+
+pub info-information_bits : (i : TmccFields) → FitsWord i → info_at (information_bits i) 0 ≡ Ok i
+info-information_bits i fits = info-stands (information_bits i) 0 i fits (record { rest = []; here = sym (append-nil (information_bits i)) })
+
+-- bits B20 to B121 of a word are its information
+pub part-word_of : (i : TmccFields) (odd : Bool) → slice_range (word_of i odd) 20 122 ≡ information_bits i
+part-word_of i odd =
+    let info = information_bits i in
+    let st = stands-front (word_of i odd) 20 info (parity_of info) (whole i odd).all in
+    ap (take 102) st.here ∙ take_at info st.rest 102 (length-information_bits i)
+
 pub read-word_of : (i : TmccFields) (odd : Bool) → FitsWord i → read (word_of i odd) ≡ Ok (i, odd)
 read-word_of i odd fits =
     let word = word_of i odd in
     let w = whole i odd in
     let info = information_bits i in
     let parity = parity_of info in
-    let parts = information word 20 i (stands-front word 20 info parity w.all) in
     read-from word i odd
     (field-number word 1 16 (sync_code odd) (sync-lt odd) (stands-back word 0 1 (false ∷ []) (number_bits 16 (sync_code odd)) refl w.sync))
     (field-stands word 17 3 (replicate 3 false) refl w.kind ∙ zeros_three)
     (ap (remainder 102) (field-stands word 20 184 (info ++ parity) (let e = length-append info parity in omega (arith, e, length-information_bits i, length-parity_of info)) w.all) ∙ parity-multiple info (length-information_bits i))
-    (field-stands word 20 2 (false ∷ false ∷ []) refl parts.system ∙ zeros_two)
-    (setting-stands word 27 i.now fits.now (stands-back word 26 27 (i.start_up ∷ []) (setting_field i.now) refl parts.start_up))
-    (next-stands word 67 i.next fits.next parts.next)
-    (field-number word 22 4 i.countdown fits.countdown parts.countdown)
-    (flag-stands word 26 i.start_up (setting_field i.now) parts.start_up)
+    (info-stands word 20 i fits (stands-front word 20 info parity w.all))
 
 -- B20 to B203 are a codeword
 pub codeword-word_of : (i : TmccFields) (odd : Bool) → IsCodeword (drop 20 (word_of i odd))

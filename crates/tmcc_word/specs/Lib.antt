@@ -2,3 +2,4 @@ pub mod Fields
 pub mod CyclicCode
 pub mod Words
 pub mod Reading
+pub mod Causes

@@ -84,10 +84,19 @@ abbrev pub ok_part : {X E : Type 0} → Result X E → Option X
 ok_part (Ok x) = Some x
 ok_part (Err e) = None
 
--- what a word says whose setting is read so
-abbrev pub with_now : List Bool → Bool → Result Parameters TmccFault → Result (TmccFields × Bool) TmccFault
-with_now word odd (Err e) = Err e
-with_now word odd (Ok s) = Ok (record { start_up = flag word 26; countdown = field word 22 4; now = s; next = ok_part (setting_at word 67) }, odd)
+-- what the information says that begins at a bit and whose setting is read so
+abbrev pub with_now : List Bool → ℕ → Result Parameters TmccFault → Result TmccFields TmccFault
+with_now word at (Err e) = Err e
+with_now word at (Ok s) = Ok (record { start_up = flag word (at + 6); countdown = field word (at + 2) 4; now = s; next = ok_part (setting_at word (at + 47)) })
+
+-- what the information says whose 102 bits begin at a bit, or the first cause of refusal
+unfoldable pub info_at : List Bool → ℕ → Result TmccFields TmccFault
+info_at word at = if not (field word at 2 == 0) then Err faults.System else with_now word at (setting_at word (at + 7))
+
+-- what a word says whose information is read so
+abbrev pub with_info : Bool → Result TmccFields TmccFault → Result (TmccFields × Bool) TmccFault
+with_info odd (Err e) = Err e
+with_info odd (Ok i) = Ok (i, odd)
 
 -- what a word says whose sync word is read so
 abbrev pub with_sync : List Bool → Option Bool → Result (TmccFields × Bool) TmccFault
@@ -95,8 +104,7 @@ with_sync word None = Err faults.Sync
 with_sync word (Some odd) =
     if not (field word 17 3 == 0) then Err faults.SegmentType
     else if not (remainder 102 (field word 20 184) == 0) then Err faults.Parity
-    else if not (field word 20 2 == 0) then Err faults.System
-    else with_now word odd (setting_at word 27)
+    else with_info odd (info_at word 20)
 
 -- what a word says and whether its frame is odd, or the first cause of refusal
 unfoldable pub read : List Bool → Result (TmccFields × Bool) TmccFault

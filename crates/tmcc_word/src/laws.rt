@@ -1,11 +1,11 @@
 //! Laws of words and their parity.
 
-ghost use Rattle.std.specs.Prelude.{◌≡◌, Bool, List, ◌++◌, length, drop, Ok, ◌↔◌};
+ghost use Rattle.std.specs.Prelude.{◌≡◌, Bool, List, ◌++◌, length, drop, slice_range, Ok, ◌↔◌};
 ghost use Rattle.isdbt_base.specs.Bits.{bits_number};
 ghost use Rattle.tmcc_word.specs.Fields.{TmccFields, FitsWord};
 ghost use Rattle.tmcc_word.specs.CyclicCode.{IsCodeword, remainder, parity_of, bit_sum};
-ghost use Rattle.tmcc_word.specs.Words.{word_of};
-ghost use Rattle.tmcc_word.specs.Reading.{read};
+ghost use Rattle.tmcc_word.specs.Words.{information_bits, word_of};
+ghost use Rattle.tmcc_word.specs.Reading.{read, info_at};
 
 /// A record that a word can bear has a word of 204 bits, which reads as the record and whether the frame is odd, and of
 /// which the bits from B20 on are a codeword.
@@ -18,6 +18,15 @@ pub fn word_law()
 /// What is read of a word is a record that a word can bear.
 pub fn reading_law()
     ensures { (word : List Bool) (i : TmccFields × Bool) → read word ≡ Ok i → FitsWord i.0 }
+{}
+
+/// Bits B20 to B121 of a word are its information, which reads as the record; what is read of 102 bits is a record that a
+/// word can bear.
+pub fn info_law()
+    ensures size { (i : TmccFields) → length (information_bits i) ≡ 102 }
+    ensures part { (i : TmccFields) (odd : Bool) → slice_range (word_of i odd) 20 122 ≡ information_bits i }
+    ensures reads { (i : TmccFields) → FitsWord i → info_at (information_bits i) 0 ≡ Ok i }
+    ensures fits { (bits : List Bool) (i : TmccFields) → info_at bits 0 ≡ Ok i → FitsWord i }
 {}
 
 /// Codewords are the bits that leave no remainder; the sum of two is one; 102 bits and their parity are one; and no other

@@ -17,6 +17,8 @@
 //! A layer field is modulation (3 bits: 1, 2, 3 for QPSK, 16QAM, 64QAM), inner rate (3 bits: 0 to 4), time interleaving
 //! length (3 bits: 0 to 3) and segments (4 bits). A layer that is not used has 13 ones. Numbers stand highest bit first.
 //!
+//! Bits B20 to B121 are the information of the word: they are also written and read by themselves, without the rest.
+//!
 //! No call takes memory, and none fails for any 204 bits. Frames are even or odd by their number, counted from 0.
 #![tactic(auto)]
 
@@ -33,9 +35,9 @@ mod writing;
 pub use cyclic_code::parity;
 pub use fault::TmccFault;
 pub use info::TmccInfo;
-pub use laws::{parity_law, reading_law, word_law};
-pub use reading::read_word;
-pub use writing::word_of;
+pub use laws::{info_law, parity_law, reading_law, word_law};
+pub use reading::{read_info, read_word};
+pub use writing::{info_bits, word_of};
 
 #[cfg(test)]
 mod tests;

@@ -1,7 +1,9 @@
 //! Words as records.
 
-ghost use Rattle.std.specs.Prelude.{◌≡◌, ◌+◌, ◌≤◌, length, true};
-ghost use Rattle.tmcc_word.specs.Reading.{read, setting_at, setting_of, setting_with_a, layer_field_at, layer_of_codes};
+ghost use Rattle.std.specs.Prelude.{◌≡◌, ◌+◌, ◌≤◌, length, true, Err};
+ghost use Rattle.tmcc_word.specs.declared.fault.TmccFault.{TmccFault as AnyFault};
+ghost use Rattle.tmcc_word.specs.Causes.{IsOfInformation};
+ghost use Rattle.tmcc_word.specs.Reading.{read, info_at, setting_at, setting_of, setting_with_a, layer_field_at, layer_of_codes};
 
 use crate::bits::number_at;
 use crate::codes::{depth_in, modulation_in, odd_in, rate_in};
@@ -25,17 +27,42 @@ pub fn read_word(word: &[bool; 204]) -> Result<(TmccInfo, bool), TmccFault>
     if !is_codeword(&word[20..204]) {
         return Err(TmccFault::Parity);
     }
-    if number_at(word, 20, 2) != 0 {
+    let info = info_at(word, 20)?;
+    Ok((info, odd))
+}
+
+/// What bits B20 to B121 of a word say, or the first cause of refusal: System, LayerField or Segments, and no other. The
+/// next setting is read by the rules of the present one, and is None where they refuse it. The last 15 bits aren't read.
+pub fn read_info(bits: &[bool; 102]) -> Result<TmccInfo, TmccFault>
+    ensures value { result ≡ info_at bits.now 0 }
+    ensures cause { (fault : AnyFault) → result ≡ Err fault → IsOfInformation fault }
+{
+    info_read(bits)
+}
+
+fn info_read(bits: &[bool; 102]) -> Result<TmccInfo, TmccFault>
+    ensures { result ≡ info_at bits.now 0 }
+{
+    let info = info_at(bits, 0)?;
+    Ok(info)
+}
+
+/// What the 102 bits of information say that begin at bit `at`, or the first cause of refusal.
+#[tactic(auto, unfolding(crate::specs::Reading::info_at))]
+fn info_at(word: &[bool], at: usize) -> Result<TmccInfo, TmccFault>
+    requires { at + 102 ≤ length word.now }
+    ensures { result ≡ info_at word.now at }
+{
+    if number_at(word, at, 2) != 0 {
         return Err(TmccFault::System);
     }
-    let now = setting_at(word, 27)?;
-    let info = TmccInfo {
-        start_up: word[26],
-        countdown: number_at(word, 22, 4) as u8,
+    let now = setting_at(word, at + 7)?;
+    Ok(TmccInfo {
+        start_up: word[at + 6],
+        countdown: number_at(word, at + 2, 4) as u8,
         now,
-        next: setting_at(word, 67).ok(),
-    };
-    Ok((info, odd))
+        next: setting_at(word, at + 47).ok(),
+    })
 }
 
 /// The setting whose 40 bits begin at bit `at`, or the first cause of refusal.

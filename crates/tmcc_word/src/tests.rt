@@ -1,6 +1,6 @@
 //! Words whose bits are known.
 
-use crate::{TmccFault, TmccInfo, parity, read_word, word_of};
+use crate::{TmccFault, TmccInfo, info_bits, parity, read_info, read_word, word_of};
 use isdbt_base::{DepthCode, Layer, LayerSetting, Modulation, Rate, Setting};
 use std::test::Fail;
 
@@ -45,12 +45,17 @@ fn changed(word: &[bool; 204], at: usize, text: &[u8]) -> [bool; 204] {
     changed
 }
 
-/// The word with the parity that fits its other bits.
-fn fitting(word: &[bool; 204]) -> [bool; 204] {
+/// The information of a word.
+fn information(word: &[bool; 204]) -> [bool; 102] {
     let mut info = [false; 102];
     info.copy_from_slice(&word[20..122]);
+    info
+}
+
+/// The word with the parity that fits its other bits.
+fn fitting(word: &[bool; 204]) -> [bool; 204] {
     let mut fitting = *word;
-    fitting[122..204].copy_from_slice(&parity(&info));
+    fitting[122..204].copy_from_slice(&parity(&information(word)));
     fitting
 }
 
@@ -107,53 +112,153 @@ fn announced_switch_of_an_odd_frame(rt: HostRuntime) -> Result<(), Fail> {
     Ok(())
 }
 
+/// Bits that a word has from bit `at` on, and how it is refused for them.
+#[derive(Clone, Copy)]
+struct RefusedBits<'a> {
+    at: usize,
+    text: &'a [u8],
+    fault: TmccFault,
+}
+
 #[test]
 fn unlawful_tmcc_words(rt: HostRuntime) -> Result<(), Fail> {
     let word = word_of(&first_info().ok_or("accepted")?, false);
     let wrong_parity = changed(&word, 203, b"0");
     assert!(rt; read_word(&wrong_parity) == Err(TmccFault::Parity));
     let ones = b"1111111111111";
-    let table = [
-        (1, b"1111111111111111".as_slice(), TmccFault::Sync),
-        (17, b"1", TmccFault::SegmentType),
-        (20, b"01", TmccFault::System),
-        (28, b"000", TmccFault::LayerField(Layer::A)),
-        (28, ones, TmccFault::LayerField(Layer::A)),
-        (31, b"101", TmccFault::LayerField(Layer::A)),
-        (34, b"100", TmccFault::LayerField(Layer::A)),
-        (37, b"0010", TmccFault::LayerField(Layer::A)),
-        (
-            41,
-            b"11111111111110010010000001",
-            TmccFault::LayerField(Layer::B),
-        ),
-        (50, b"0000", TmccFault::LayerField(Layer::B)),
-        (50, b"1110", TmccFault::LayerField(Layer::B)),
-        (54, b"0010010000000", TmccFault::LayerField(Layer::C)),
-        (54, b"0010010000001", TmccFault::Segments(14)),
-        (50, b"1011", TmccFault::Segments(12)),
-        (41, ones, TmccFault::Segments(1)),
+    let rows = [
+        RefusedBits {
+            at: 1,
+            text: b"1111111111111111",
+            fault: TmccFault::Sync,
+        },
+        RefusedBits {
+            at: 17,
+            text: b"1",
+            fault: TmccFault::SegmentType,
+        },
+        RefusedBits {
+            at: 20,
+            text: b"01",
+            fault: TmccFault::System,
+        },
+        RefusedBits {
+            at: 28,
+            text: b"000",
+            fault: TmccFault::LayerField(Layer::A),
+        },
+        RefusedBits {
+            at: 28,
+            text: ones,
+            fault: TmccFault::LayerField(Layer::A),
+        },
+        RefusedBits {
+            at: 31,
+            text: b"101",
+            fault: TmccFault::LayerField(Layer::A),
+        },
+        RefusedBits {
+            at: 34,
+            text: b"100",
+            fault: TmccFault::LayerField(Layer::A),
+        },
+        RefusedBits {
+            at: 37,
+            text: b"0010",
+            fault: TmccFault::LayerField(Layer::A),
+        },
+        RefusedBits {
+            at: 41,
+            text: b"11111111111110010010000001",
+            fault: TmccFault::LayerField(Layer::B),
+        },
+        RefusedBits {
+            at: 50,
+            text: b"0000",
+            fault: TmccFault::LayerField(Layer::B),
+        },
+        RefusedBits {
+            at: 50,
+            text: b"1110",
+            fault: TmccFault::LayerField(Layer::B),
+        },
+        RefusedBits {
+            at: 54,
+            text: b"0010010000000",
+            fault: TmccFault::LayerField(Layer::C),
+        },
+        RefusedBits {
+            at: 54,
+            text: b"0010010000001",
+            fault: TmccFault::Segments(14),
+        },
+        RefusedBits {
+            at: 50,
+            text: b"1011",
+            fault: TmccFault::Segments(12),
+        },
+        RefusedBits {
+            at: 41,
+            text: ones,
+            fault: TmccFault::Segments(1),
+        },
     ];
-    for (at, text, fault) in table {
+    for RefusedBits { at, text, fault } in rows {
         let refused = fitting(&changed(&word, at, text));
         assert!(rt; read_word(&refused) == Err(fault), "from B{at} on");
+        if at >= 20 {
+            assert!(rt;
+                read_info(&information(&refused)) == Err(fault),
+                "from B{at} on"
+            );
+        }
     }
     Ok(())
+}
+
+/// Bits that a word has from bit `at` on, and that change nothing of what it says.
+#[derive(Clone, Copy)]
+struct UnreadBits<'a> {
+    at: usize,
+    text: &'a [u8],
 }
 
 #[test]
 fn unread_bits(rt: HostRuntime) -> Result<(), Fail> {
     let info = first_info().ok_or("accepted")?;
     let word = word_of(&info, false);
-    let table = [
-        (0, b"1".as_slice()),
-        (107, b"000000000000000"),
-        (57, b"0000000000"),
-        (67, b"0000000000000000000000000000000000000000"),
+    let rows = [
+        UnreadBits { at: 0, text: b"1" },
+        UnreadBits {
+            at: 107,
+            text: b"000000000000000",
+        },
+        UnreadBits {
+            at: 57,
+            text: b"0000000000",
+        },
+        UnreadBits {
+            at: 67,
+            text: b"0000000000000000000000000000000000000000",
+        },
     ];
-    for (at, text) in table {
+    for UnreadBits { at, text } in rows {
         let other = fitting(&changed(&word, at, text));
         assert!(rt; read_word(&other) == Ok((info, false)), "from B{at} on");
+        assert!(rt;
+            read_info(&information(&other)) == Ok(info),
+            "from B{at} on"
+        );
     }
+    Ok(())
+}
+
+#[test]
+fn information_alone(rt: HostRuntime) -> Result<(), Fail> {
+    let info = first_info().ok_or("accepted")?;
+    let bits = info_bits(&info);
+    assert!(rt; shows(&bits[0..34], b"0011110100100101100010110100101100"));
+    assert!(rt; bits[34..102].iter().all(|bit| *bit));
+    assert!(rt; read_info(&bits) == Ok(info));
     Ok(())
 }

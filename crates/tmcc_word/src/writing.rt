@@ -1,9 +1,9 @@
 //! Records as words.
 
-ghost use Rattle.std.specs.Prelude.{◌≡◌, ◌+◌, ◌≤◌, ◌++◌, length, take, drop, Ok};
+ghost use Rattle.std.specs.Prelude.{◌≡◌, ◌+◌, ◌≤◌, ◌++◌, Bool, length, take, drop, slice_range, Ok};
 ghost use Rattle.tmcc_word.specs.CyclicCode.{IsCodeword};
 ghost use Rattle.tmcc_word.specs.Words.{layer_field, setting_field, next_field, information_bits, word_of};
-ghost use Rattle.tmcc_word.specs.Reading.{read};
+ghost use Rattle.tmcc_word.specs.Reading.{read, info_at};
 
 use crate::bits::{put, put_number};
 use crate::codes::{depth_code, modulation_code, rate_code, sync_code};
@@ -31,6 +31,16 @@ fn written(info: &TmccInfo, odd: bool) -> [bool; 204]
     let at = put(&mut word, at, &bits);
     put(&mut word, at, &parity(&bits));
     word
+}
+
+/// Bits B20 to B121 of the word that says this, which are the same in even and odd frames. `read_info` undoes it.
+pub fn info_bits(info: &TmccInfo) -> [bool; 102]
+    ensures value { result ≡ information_bits info.entry.now }
+    ensures part { (odd : Bool) → slice_range (word_of info.entry.now odd) 20 122 ≡ result }
+    ensures reads { info_at result 0 ≡ Ok info.entry.now }
+{
+    info.acceptance_law();
+    information(info)
 }
 
 /// Bits B20 to B121.
