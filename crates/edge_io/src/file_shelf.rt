@@ -109,6 +109,7 @@ impl<'a, R: Files + Input> Shelf for FileShelf<'a, R> {
         ensures standard_kept { name.now ≢ codes "-" → standard_was_opened self.new ≡ standard_was_opened self.old }
         ensures opened { OnOk result (is_seat_open self.new seat ≡ true) }
         ensures closed { OnErr result (is_seat_open self.new seat ≡ false) }
+        ensures kept { OnErr result (known_left R.File.remaining R.Reader.remaining self.new seat ≡ known_left R.File.remaining R.Reader.remaining self.old seat) }
         ensures other_open { OthersKeep seat (is_seat_open self.old) (is_seat_open self.new) }
         ensures other_left { OthersKeep seat (known_left R.File.remaining R.Reader.remaining self.old) (known_left R.File.remaining R.Reader.remaining self.new) }
         ensures counts { Counts (fault_count self.old) (fault_count self.new) result }

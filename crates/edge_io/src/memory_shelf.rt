@@ -128,6 +128,7 @@ impl Shelf for MemoryShelf {
         ensures opened { OnOk result (is_seat_open self.new seat ≡ true) }
         ensures content { OnOk result (Some (rest_of self.new seat) ≡ content_of self.old name.now) }
         ensures closed { OnErr result (is_seat_open self.new seat ≡ false) }
+        ensures kept { OnErr result (rest_of self.new seat ≡ rest_of self.old seat) }
         ensures none_taken { taken_of self.new seat ≡ 0 }
         ensures counts { Counts (fault_count self.old) (fault_count self.new) result }
         ensures cause { ShelfCause (Opening seat name.now) (λ _. fault_count self.old) (λ _. fault_count self.new) result }
@@ -169,6 +170,7 @@ impl Shelf for MemoryShelf {
         ensures end { IfOk result (λ n. n ≡ 0 → rest_of self.old seat ≡ []) }
         ensures kept { OnErr result (rest_of self.new seat ≡ rest_of self.old seat) }
         ensures none_taken { OnErr result (taken_of self.new seat ≡ taken_of self.old seat) }
+        ensures buffer { OnErr result (buf.new ≡ buf.old) }
         ensures counts { Counts (fault_count self.old) (fault_count self.new) result }
         ensures cause { ShelfCause (Reading seat) (λ _. fault_count self.old) (λ _. fault_count self.new) result }
 

@@ -47,12 +47,13 @@ pub trait Shelf {
         ensures opened { OnOk result (is_open self.new seat ≡ true) }
         ensures content { OnOk result (left self.new seat ≡ holds self.old name.now) }
         ensures closed { OnErr result (is_open self.new seat ≡ false) }
+        ensures kept { OnErr result (left self.new seat ≡ left self.old seat) }
         ensures cause { ShelfCause (Opening seat name.now) (faults self.old) (faults self.new) result };
 
     /// Takes the first bytes that are left at an open seat into the front of the buffer, and gives
     /// how many. `Ok(0)` is the end.
     ///
-    /// A failure takes nothing, and is counted for this seat.
+    /// A failure takes nothing, and is counted for this seat. What the buffer holds then isn't said.
     fn read(&mut self, seat: Seat, buf: &mut [u8]) -> Result<usize, Failed>
         requires open { is_open self.old seat ≡ true }
         requires room { 0 < length buf.old }

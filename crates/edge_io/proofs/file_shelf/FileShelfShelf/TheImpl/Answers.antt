@@ -18,6 +18,7 @@ open-tells g c = record {
   opened = c.ensures.opened;
   content = on_ok c.result (λ _. refl);
   closed = c.ensures.closed;
+  kept = on_err c.result refl;
   cause = c.ensures.cause;
 }
 

@@ -15,6 +15,18 @@ some_on_ok : {E X : Type 0} (r : Result ℕ E) (x : X) (f : ℕ → X) → IfOk 
 some_on_ok (Ok n) x f is = ap Some is
 some_on_ok (Err _) x f is = tt
 
+pub open-tells : goal.open-tells
+open-tells c = record {
+  names = c.ensures.names;
+  other_left = λ other ne. ap Some (c.ensures.other_left other ne);
+  other_open = c.ensures.other_open;
+  opened = c.ensures.opened;
+  content = c.ensures.content;
+  closed = c.ensures.closed;
+  kept = on_err_weaker _ (ap Some) c.ensures.kept;
+  cause = c.ensures.cause;
+}
+
 pub read-tells : goal.read-tells
 read-tells c = record {
   names = c.ensures.names;

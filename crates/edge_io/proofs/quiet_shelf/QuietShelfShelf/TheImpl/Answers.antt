@@ -21,6 +21,7 @@ open-tells c = record {
   opened = rw c.ensures.succeeds c.ensures.opened;
   content = rw c.ensures.succeeds (ap Some c.ensures.content);
   closed = rw c.ensures.succeeds tt;
+  kept = rw c.ensures.succeeds tt;
   cause = record { later = λ any. omega arith; failed = rw c.ensures.succeeds tt; kept = rw c.ensures.succeeds refl };
 }
 
