@@ -3,7 +3,7 @@
 ghost use Rattle.std.specs.Prelude.{◌≡◌, ℕ, ◌+◌, ◌*◌, ◌%◌, ◌<◌, ◌≤◌, false, List, [], ◌++◌, length, slice_index_or};
 ghost use Rattle.isdbt_base.specs.Numbers.{rate_steps};
 ghost use Rattle.conv_punct.specs.CodedBits.{bit_of, coded_bit};
-ghost use Rattle.conv_punct.specs.StandsFor.{StandsFor, BeginsWith, coded_size};
+ghost use Rattle.conv_punct.specs.StandsFor.{StandsFor, BeginsWith, coded_size, rate_of};
 
 use crate::outputs::{joined, outputs_of};
 use crate::puncture::put_coded;
@@ -36,7 +36,7 @@ impl Encoder {
     /// The encoder that was fed nothing: zero bits stand before the first input.
     pub fn start(rate: Rate) -> Encoder
         ensures state { StandsFor result [] }
-        ensures rate { result.rate ≡ rate }
+        ensures rate { rate_of result ≡ rate }
     {
         Encoder { rate, newest: 0 }
     }
@@ -45,13 +45,13 @@ impl Encoder {
     /// their coded bits to the front of `out`, which has room for them, and answers their count; the rest of `out` stays
     /// as it was. The bits go on from those of the bytes fed before.
     pub fn feed(&mut self, bytes: &[u8], out: &mut [bool]) -> usize
-        requires whole { 8 * length bytes.now % rate_steps self.old.rate ≡ 0 }
-        requires room { coded_size self.old.rate (length bytes.now) ≤ length out.old }
-        ensures count { result ≡ coded_size self.old.rate (length bytes.now) }
-        ensures coded { (fed : List ℕ) (stream : ℕ → ℕ) → StandsFor self.old fed → BeginsWith stream (fed ++ bytes.now) → (i : ℕ) → i < result → slice_index_or out.new i false ≡ coded_bit self.old.rate (bit_of stream) (coded_size self.old.rate (length fed) + i) }
+        requires whole { 8 * length bytes.now % rate_steps (rate_of self.old) ≡ 0 }
+        requires room { coded_size (rate_of self.old) (length bytes.now) ≤ length out.old }
+        ensures count { result ≡ coded_size (rate_of self.old) (length bytes.now) }
+        ensures coded { (fed : List ℕ) (stream : ℕ → ℕ) → StandsFor self.old fed → BeginsWith stream (fed ++ bytes.now) → (i : ℕ) → i < result → slice_index_or out.new i false ≡ coded_bit (rate_of self.old) (bit_of stream) (coded_size (rate_of self.old) (length fed) + i) }
         ensures rest { (i : ℕ) → result ≤ i → slice_index_or out.new i false ≡ slice_index_or out.old i false }
         ensures state { (fed : List ℕ) → StandsFor self.old fed → StandsFor self.new (fed ++ bytes.now) }
-        ensures rate { self.new.rate ≡ self.old.rate }
+        ensures rate { rate_of self.new ≡ rate_of self.old }
     {
         let (unit, patterns) = unit_of(self.rate);
         let mut inputs = u64::from(self.newest);

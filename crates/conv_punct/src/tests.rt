@@ -1,6 +1,7 @@
 //! Coded bits that are known: by hand, or from an independent program.
 
 ghost use Rattle.std.specs.Prelude.{◌≡◌};
+ghost use Rattle.conv_punct.specs.StandsFor.{rate_of};
 
 use crate::{Encoder, coded_len};
 use isdbt_base::{Rate, rate_pair};
@@ -16,8 +17,8 @@ fn feed_known(
     wanted: &[u8],
     from: usize,
 ) -> usize
-    requires { encoder.old.rate ≡ rate }
-    ensures { encoder.new.rate ≡ rate }
+    requires { rate_of encoder.old ≡ rate }
+    ensures { rate_of encoder.new ≡ rate }
 {
     let (steps, bits) = rate_pair(rate);
     assert!(rt; bytes.len() <= 20 && from <= 200);
