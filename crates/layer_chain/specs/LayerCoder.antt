@@ -2,7 +2,7 @@
 use Rattle.std.specs.Prelude.{◌≡◌, ℕ, ◌+◌, ◌*◌, Bool, List}
 use Rattle.isdbt_base.specs.declared.kinds.Mode.{Mode}
 use Rattle.isdbt_base.specs.LayerParameters.{LayerParameters}
-use Rattle.isdbt_base.specs.Numbers.{carriers, layer_cells, cell_bits, time_depth, time_adjust}
+use Rattle.isdbt_base.specs.Numbers.{carriers, layer_cells, cell_bits, packets_per_frame, time_depth, time_adjust}
 use Rattle.delay_line.specs.Adjusted.{AdjustedStandsFor}
 use Rattle.bit_inter.specs.BitPlaces.{bit_adjustment, interleaved_bits}
 use Rattle.bit_inter.specs.Layouts.{inter_layout}
@@ -22,9 +22,12 @@ mode_of s = coded.mode_of s.coded
 abbrev pub layer_of : LayerCoder → LayerParameters
 layer_of s = coded.layer_of s.coded
 
--- cells of the layer in a symbol
+-- cells of the layer in a symbol, and packets in a frame
 abbrev pub cells_of : LayerCoder → ℕ
 cells_of s = layer_cells (mode_of s) (layer_of s)
+
+abbrev pub packets_of : LayerCoder → ℕ
+packets_of s = packets_per_frame (mode_of s) (layer_of s)
 
 -- the coded bits of the packets of an epoch
 abbrev pub coded_of : LayerCoder → (ℕ → List ℕ) → ℕ → Bool

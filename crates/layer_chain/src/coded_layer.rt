@@ -2,6 +2,7 @@
 
 ghost use Rattle.std.specs.Prelude.{◌≡◌, ◌*◌, vec_len};
 ghost use Rattle.isdbt_base.specs.Numbers.{packets_per_frame};
+ghost use Rattle.conv_punct.specs.StandsFor.{rate_of};
 
 use crate::adjusted::Adjusted;
 use crate::units::{UNIT, put_units};
@@ -28,7 +29,7 @@ pub struct CodedLayer {
     ghost middle_room: { vec_len interleaver.middle ≡ 204 * packets_per_frame mode layer },
     ghost units_room: { vec_len units ≡ 204 * packets_per_frame mode layer },
     ghost placed_room: { vec_len placed ≡ 204 * packets_per_frame mode layer },
-    ghost same_rate: { encoder.rate ≡ layer.rate },
+    ghost same_rate: { rate_of encoder ≡ layer.rate },
 }
 
 impl CodedLayer {

@@ -4,6 +4,7 @@ ghost use Rattle.std.specs.Prelude.{◌≡◌, ◌+◌, ◌*◌, ◌<◌, ◌≤
 ghost use Rattle.isdbt_base.specs.declared.kinds.Rate.TheVariants.{R12};
 ghost use Rattle.isdbt_base.specs.declared.kinds.Mode.TheVariants.{M1};
 ghost use Rattle.isdbt_base.specs.Numbers.{layer_cells};
+ghost use Rattle.conv_punct.specs.StandsFor.{rate_of};
 ghost use Rattle.layer_chain.specs.LayerDecoder.{mode_of, layer_of, cells_of, packets_of, symbols_of};
 
 use crate::adjusted::Adjusted;
@@ -79,7 +80,7 @@ struct Parts {
     encoder: Encoder,
     bits: Adjusted<BitStage>,
     cells: Adjusted<LayerInter>,
-    ghost half: { encoder.rate ≡ R12 },
+    ghost half: { rate_of encoder ≡ R12 },
 }
 
 /// The layer that they are of.

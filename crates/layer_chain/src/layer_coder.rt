@@ -61,8 +61,8 @@ impl LayerCoder {
     ghost use Rattle.cell_map.specs.Levels.{cell_of};
     ghost use Rattle.layer_chain.specs.Held.{bytes_in, bits_in, cells_in};
     ghost use Rattle.layer_chain.specs.LayerCells.{cell_bits_at};
-    ghost use Rattle.layer_chain.specs.CodedLayer.{packets_of, IsFrame};
-    ghost use Rattle.layer_chain.specs.LayerCoder.{mode_of, layer_of, cells_of, coded_of, StandsFor};
+    ghost use Rattle.layer_chain.specs.CodedLayer.{IsFrame};
+    ghost use Rattle.layer_chain.specs.LayerCoder.{mode_of, layer_of, cells_of, packets_of, coded_of, StandsFor};
 
     /// A coder of a layer that has seen no packet. Only memory can be wanting.
     pub fn open(alloc: Global, setting: &LayerSetting, mode: Mode) -> Result<LayerCoder, NoMemory>
@@ -100,12 +100,12 @@ impl LayerCoder {
     /// Writes the cells of the next frame, symbol after symbol, each in the order of the layer's places. The packets are
     /// as many as the layer has in a frame, and `out` has room for just the layer's cells in 204 symbols.
     pub fn frame(&mut self, packets: &[Packet], out: &mut [Cell])
-        requires packets { length packets.now ≡ packets_of self.old.coded }
+        requires packets { length packets.now ≡ packets_of self.old }
         requires room { length out.old ≡ 204 * cells_of self.old }
-        ensures cells { (packet : ℕ → List ℕ) (frame : ℕ) → StandsFor self.old packet frame → IsFrame (packets_of self.old.coded) packet frame packets.now
+        ensures cells { (packet : ℕ → List ℕ) (frame : ℕ) → StandsFor self.old packet frame → IsFrame (packets_of self.old) packet frame packets.now
             → (y w : ℕ) → y < 204 → w < cells_of self.old
             → slice_get out.new (cells_of self.old * y + w) ≡ Some (cell_of (layer_of self.old).modulation (cell_bits_at (mode_of self.old) (layer_of self.old) (coded_of self.old packet) (204 * frame + y) w)) }
-        ensures state { (packet : ℕ → List ℕ) (frame : ℕ) → StandsFor self.old packet frame → IsFrame (packets_of self.old.coded) packet frame packets.now
+        ensures state { (packet : ℕ → List ℕ) (frame : ℕ) → StandsFor self.old packet frame → IsFrame (packets_of self.old) packet frame packets.now
             → StandsFor self.new packet (frame + 1) }
         ensures mode { mode_of self.new ≡ mode_of self.old }
         ensures layer { layer_of self.new ≡ layer_of self.old }
@@ -120,7 +120,7 @@ impl LayerCoder {
 
     /// What the delay lines hold: the same at every moment after opening.
     pub fn held(&self) -> Held
-        ensures bytes { result.bytes ≡ 204 * (packets_of self.now.coded - 11) + 1122 }
+        ensures bytes { result.bytes ≡ 204 * (packets_of self.now - 11) + 1122 }
         ensures bits { result.bits ≡ cell_bits (layer_of self.now).modulation * (2 * cells_of self.now - 120) + 60 * cell_bits (layer_of self.now).modulation }
         ensures cells { result.cells ≡ cells_of self.now * (2 * time_adjust (mode_of self.now) (layer_of self.now).depth + 95 * time_depth (mode_of self.now) (layer_of self.now).depth) / 2 }
         ensures all_bytes { (packet : ℕ → List ℕ) (frames : ℕ) → StandsFor self.now packet frames → bytes_in self.now ≡ result.bytes }
