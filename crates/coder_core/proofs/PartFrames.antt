@@ -12,9 +12,9 @@ use Rattle.isdbt_base.specs.Frames.{FramePackets}
 use Rattle.cell_map.specs.declared.cell.Cell.{Cell}
 use Rattle.cell_map.specs.Levels.{cell_of}
 use Rattle.layer_chain.specs.CodedBits.{layer_coded_bit}
-use Rattle.layer_chain.specs.CodedLayer.{packets_of, IsFrame}
+use Rattle.layer_chain.specs.CodedLayer.{IsFrame}
 use Rattle.layer_chain.specs.LayerCells.{cell_bits_at}
-use Rattle.layer_chain.specs.LayerCoder.{mode_of, layer_of}
+use Rattle.layer_chain.specs.LayerCoder.{mode_of, layer_of, packets_of}
 use Rattle.layer_chain.specs.declared.layer_coder.LayerCoder.{LayerCoder}
 use Rattle.coder_core.specs.InputFrames.{packet_in}
 use Rattle.coder_core.specs.SentCells.{epoch_packet, layer_cell_at}
@@ -42,7 +42,7 @@ IsLayerFrame mode o x frame frames f = (j : ℕ) → j < number_of (packets_per_
 
 is_frame : (mode : Mode) (l : LayerParameters) (s : LayerCoder) (packets : List (List ℕ)) (x : Layer) (frame : List ℕ) (frames : FramePackets) (start g : ℕ) →
     mode_of s ≡ mode → layer_of s ≡ l → ArePackets mode (Some l) x frame packets → IsLayerFrame mode (Some l) x frame frames (start + g)
-    → IsFrame (packets_of s.coded) (epoch_packet mode l frames start x) g packets
+    → IsFrame (packets_of s) (epoch_packet mode l frames start x) g packets
 is_frame mode l s packets x frame frames start g m k are is =
     let p = epoch_packet mode l frames start x in
     let whole : IsFrame (packets_per_frame mode l) p g packets = record { each = λ j h. epoch_packet-at mode l frames start g x j h ∙ is j h ∙ sym (are j h) } in

@@ -8,9 +8,9 @@ use Rattle.isdbt_base.specs.Numbers.{layer_cells}
 use Rattle.isdbt_base.specs.Frames.{FramePackets}
 use Rattle.cell_map.specs.declared.cell.Cell.{Cell}
 use Rattle.cell_map.specs.Levels.{cell_of}
-use Rattle.layer_chain.specs.CodedLayer.{packets_of, IsFrame}
+use Rattle.layer_chain.specs.CodedLayer.{IsFrame}
 use Rattle.layer_chain.specs.LayerCells.{cell_bits_at}
-use Rattle.layer_chain.specs.LayerCoder.{mode_of, layer_of, cells_of, coded_of}
+use Rattle.layer_chain.specs.LayerCoder.{mode_of, layer_of, cells_of, packets_of, coded_of}
 use Rattle.layer_chain.specs.LayerCoder as layer
 use Rattle.layer_chain.specs.declared.layer_coder.LayerCoder.{LayerCoder}
 use Rattle.coder_core.specs.SentCells.{epoch_packet, layer_cell_at}
@@ -35,7 +35,7 @@ AreCellsOf mode (Some l) x frames start g cells = (y w : ℕ) → y < 204 → w 
 -- there is room for the packets and for the cells of a frame
 abbrev pub HasPackets : Option LayerCoder → List (List ℕ) → Type 0
 HasPackets None packets = Unit {0}
-HasPackets (Some s) packets = length packets ≡ packets_of s.coded
+HasPackets (Some s) packets = length packets ≡ packets_of s
 
 abbrev pub HasRoom : Option LayerCoder → List Cell → Type 0
 HasRoom None cells = Unit {0}
@@ -43,10 +43,10 @@ HasRoom (Some s) cells = length cells ≡ 204 * cells_of s
 
 -- a coder that takes a frame of packets becomes another and gives cells
 pub record CodesFrame (s : LayerCoder) (packets : List (List ℕ)) (t : LayerCoder) (cells : List Cell) : Type 0 where
-  pub given : (packet : ℕ → List ℕ) (frame : ℕ) → layer.StandsFor s packet frame → IsFrame (packets_of s.coded) packet frame packets
+  pub given : (packet : ℕ → List ℕ) (frame : ℕ) → layer.StandsFor s packet frame → IsFrame (packets_of s) packet frame packets
       → (y w : ℕ) → y < 204 → w < cells_of s
       → slice_get cells (cells_of s * y + w) ≡ Some (cell_of (layer_of s).modulation (cell_bits_at (mode_of s) (layer_of s) (coded_of s packet) (204 * frame + y) w))
-  pub state : (packet : ℕ → List ℕ) (frame : ℕ) → layer.StandsFor s packet frame → IsFrame (packets_of s.coded) packet frame packets
+  pub state : (packet : ℕ → List ℕ) (frame : ℕ) → layer.StandsFor s packet frame → IsFrame (packets_of s) packet frame packets
       → layer.StandsFor t packet (frame + 1)
   pub same_mode : mode_of t ≡ mode_of s
   pub same_layer : layer_of t ≡ layer_of s
