@@ -3,11 +3,14 @@
 ghost use Rattle.std.specs.Prelude.{◌≡◌, ◌≤◌, IfOk};
 ghost use Rattle.isdbt_base.specs.Numbers.{carriers};
 
-use crate::{CellPlace, LayerDeinter, TimeDeinter, TimeInter, place};
+use crate::{
+    CellPlace, LayerDeinter, LayerInter, TimeDeinter, TimeInter, layer_partner_law, place,
+};
 use delay_line::{Stage, through};
 use isdbt_base::{
     DepthCode, Layer, LayerSetting, Mode, Modulation, Rate, Setting, adjust_of, carriers, depth_of,
 };
+use std::alloc::Global;
 use std::test::Fail;
 
 /// By how many symbols a stage delays each of some carriers.
@@ -131,6 +134,34 @@ fn time_pair(rt: HostRuntime) -> Result<(), Fail> {
                 "symbol {symbol}, carrier {carrier}"
             );
         }
+    }
+    Ok(())
+}
+
+/// What a deinterleaver gives at last of so many symbols of two segments of mode 3, each cell told by symbol and place, that
+/// an interleaver of the same setting was fed.
+fn last_of_pair(alloc: Global, symbols: usize) -> Result<[u8; 768], Fail> {
+    let layer = LayerSetting::new(2, Modulation::Qpsk, Rate::R23, DepthCode::D1).ok_or("refused")?;
+    let mut inter = LayerInter::open(alloc, &layer, Mode::M3)?;
+    let mut deinter = LayerDeinter::open(alloc, &layer, Mode::M3)?;
+    layer_partner_law(&layer, Mode::M3);
+    let mut middle = [0u8; 768];
+    let mut cells = [0u8; 768];
+    for symbol in 0..symbols {
+        for place in 0..768 {
+            cells[place] = cell_of(symbol, place);
+        }
+        through(&mut inter, &mut deinter, &mut cells, &mut middle);
+    }
+    Ok(cells)
+}
+
+#[test]
+fn layer_pair(rt: HostRuntime) -> Result<(), Fail> {
+    assert_eq!(rt; last_of_pair(rt.alloc(), 95)?, [0; 768]);
+    let cells = last_of_pair(rt.alloc(), 98)?;
+    for (place, cell) in cells.iter().enumerate() {
+        assert_eq!(rt; *cell, cell_of(2, place), "place {place}");
     }
     Ok(())
 }
