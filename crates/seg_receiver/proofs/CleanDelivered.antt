@@ -1,9 +1,10 @@
 -- The cells of a plan are near it.
-use Rattle.std.proofs.Common.{◌≡◌, ℕ, ◌+◌, ◌-◌, ◌*◌, ◌/◌, ◌%◌, ◌≤◌, ◌<◌, List, [], ◌∷◌, refl, arith, ap, sym, ◌∙◌, subst, Some}
+use Rattle.std.proofs.Common.{◌≡◌, ℕ, ◌+◌, ◌-◌, ◌*◌, ◌/◌, ◌%◌, ◌≤◌, ◌<◌, List, [], ◌∷◌, refl, arith, ap, sym, ◌∙◌, subst, true, Some}
 use Rattle.std.proofs.Math.Nat.{mul-add-div_right, mul-add-mod_self_right}
 use Rattle.std.proofs.lemmas.Nat.{div_below, mod_below, div-mul-add, mod-mul-add}
 use Rattle.std.proofs.lemmas.Bool.{eq-eqb}
 use Rattle.isdbt_base.specs.declared.kinds.Mode.{Mode}
+use Rattle.isdbt_base.specs.declared.kinds.Guard.{Guard}
 use Rattle.isdbt_base.specs.declared.kinds.Layer.{Layer}
 use Rattle.isdbt_base.specs.declared.kinds.Layer.TheVariants.{A, B, C}
 use Rattle.isdbt_base.specs.LayerParameters.{LayerParameters, HasSegments}
@@ -24,10 +25,10 @@ use Rattle.layer_chain.proofs.StableWords.{unit_word-same}
 use Rattle.coder_core.specs.SentCells.{epoch_packet, layer_cell_at, epoch_cell, frame_cells}
 use Rattle.coder_core.proofs.PlanEpochs.{epoch_start-le, same_epoch, setting_accepted}
 use Rattle.coder_core.proofs.SegmentCells.{carriers-positive, layer-symbol_cell}
-use Rattle.seg_receiver.specs.CellStream.{stream_cell}
+use Rattle.seg_receiver.specs.CellStream.{stream_cell, View, first_version}
 use Rattle.seg_receiver.specs.Received.{place_bits}
-use Rattle.seg_receiver.specs.Delivered.{KeepsMode, into_epoch, ArePackets, outer_word_at, IsNear}
-use Rattle.seg_receiver.proofs.PlanModes.{PacketsIn, packets_in, plan_cells, cells-in}
+use Rattle.seg_receiver.specs.Delivered.{SendsIn, into_epoch, ArePackets, outer_word_in, AreWordsNear, IsNear, IsNearPartial}
+use Rattle.seg_receiver.proofs.PlanModes.{SendsMode, PacketsIn, packets_in, plan_cells, cells-in}
 use Rattle.seg_receiver.proofs.StreamLaws.{length-plan_cells, stream_word-plan, stream_cell-plan}
 
 -- ---- layers and segments
@@ -92,7 +93,7 @@ differing-self (x ∷ xs) = rw (eq-eqb x x refl) (differing-self xs)
 
 -- each outer word of the plan's cells is its packet's codeword
 outer_word-plan : (mode : Mode) (p : Schedule) (frames : FramePackets) (count : ℕ) (x : Layer) → IsPlan p → PacketsIn mode p frames count → (f j : ℕ) (l : LayerParameters) → f < count → layer_of (at_frame p f).setting x ≡ Some l →
-    layer_delay mode l ≤ into_epoch p f → j < packets_per_frame mode l → outer_word_at mode p (plan_cells mode p frames count) l x f j ≡ codeword_of 16 (frames (f - layer_delay mode l) x j)
+    layer_delay mode l ≤ into_epoch p f → j < packets_per_frame mode l → outer_word_in mode (stream_cell mode (plan_cells mode p frames count)) p l x f j ≡ codeword_of 16 (frames (f - layer_delay mode l) x j)
 outer_word-plan mode p frames count x plan packets f j l h used late k =
     let s = (at_frame p f).setting in
     let start = (at_frame p f).start in
@@ -112,14 +113,41 @@ outer_word-plan mode p frames count x plan packets f j l h used late k =
 
 -- ---- the cells of a plan are near it
 
-cells-near : (mode : Mode) (p : Schedule) (frames : FramePackets) (count : ℕ) → IsPlan p → PacketsIn mode p frames count → IsNear mode p frames count (plan_cells mode p frames count)
-cells-near mode p frames count plan packets = record {
-  whole = length-plan_cells mode p frames count;
-  words = stream_word-plan mode p frames count;
-  close = λ x f j l h used late k.
-      (let e = ap (λ word. differing word (codeword_of 16 (frames (f - layer_delay mode l) x j))) (outer_word-plan mode p frames count x plan packets f j l h used late k) ∙ differing-self (codeword_of 16 (frames (f - layer_delay mode l) x j)) in omega (arith, e));
-}
+module _ (mode : Mode) (guard : Guard) (p : Schedule) (frames : FramePackets) (count : ℕ) where
+  abbrev Plain : View
+  Plain = first_version mode guard (plan_cells mode p frames count)
 
-pub plan_cells-near : (mode : Mode) (p : Schedule) (frames : FramePackets) (count : ℕ) → IsPlan p → KeepsMode mode p → ArePackets p frames count → IsNear mode p frames count (product (frame_cells p frames) count)
-plan_cells-near mode p frames count plan keeps packets =
-    subst (IsNear mode p frames count) (sym (cells-in mode p frames count keeps)) (cells-near mode p frames count plan (packets_in mode p frames count keeps packets))
+  words-near : IsPlan p → SendsMode mode p count → ArePackets p frames count → (x : Layer) → AreWordsNear Plain p frames count x
+  words-near plan sends packets x f j l h used late k =
+      let cell = stream_cell mode (plan_cells mode p frames count) in
+      let P : Mode → Type 0 = λ m. layer_delay m l ≤ into_epoch p f → j < packets_per_frame m l → differing (outer_word_in m cell p l x f j) (codeword_of 16 (frames (f - layer_delay m l) x j)) ≤ 8 in
+      let at : P mode = λ late k.
+      (let e = ap (λ word. differing word (codeword_of 16 (frames (f - layer_delay mode l) x j))) (outer_word-plan mode p frames count x plan (packets_in mode p frames count sends packets) f j l h used late k) ∙ differing-self (codeword_of 16 (frames (f - layer_delay mode l) x j)) in omega (arith, e)) in
+      subst P (sym (sends f h)) at late k
+
+  cells-near : IsPlan p → SendsIn mode guard p count → ArePackets p frames count → IsNear Plain p frames count
+  cells-near plan sends packets = record {
+    whole = length-plan_cells mode p frames count;
+    modes = λ f h. sym (sends f h).0;
+    guards = λ f h. sym (sends f h).1;
+    words = stream_word-plan mode p frames count;
+    close = words-near plan (λ f h. (sends f h).0) packets;
+  }
+
+  cells-near_partial : IsPlan p → SendsMode mode p count → ArePackets p frames count → ((f : ℕ) → f < count → (at_frame p f).setting.partial ≡ true) → IsNearPartial Plain p frames count
+  cells-near_partial plan sends packets partial = record {
+    whole = length-plan_cells mode p frames count;
+    modes = λ f h. sym (sends f h);
+    words = stream_word-plan mode p frames count;
+    close = words-near plan sends packets A;
+    partial = partial;
+  }
+
+  pub plan_cells-near : IsPlan p → SendsIn mode guard p count → ArePackets p frames count → IsNear (first_version mode guard (product (frame_cells p frames) count)) p frames count
+  plan_cells-near plan sends packets =
+      subst (λ stream. IsNear (first_version mode guard stream) p frames count) (sym (cells-in mode p frames count (λ f h. (sends f h).0))) (cells-near plan sends packets)
+
+  pub plan_cells-near_partial : IsPlan p → SendsMode mode p count → ArePackets p frames count → ((f : ℕ) → f < count → (at_frame p f).setting.partial ≡ true)
+      → IsNearPartial (first_version mode guard (product (frame_cells p frames) count)) p frames count
+  plan_cells-near_partial plan sends packets partial =
+      subst (λ stream. IsNearPartial (first_version mode guard stream) p frames count) (sym (cells-in mode p frames count sends)) (cells-near_partial plan sends packets partial)

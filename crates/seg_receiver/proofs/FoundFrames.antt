@@ -24,8 +24,9 @@ use Rattle.coder_core.proofs.Finding.{find-first_of}
 use Rattle.coder_core.proofs.PlanEpochs.{setting_accepted, at_countdown-le}
 use Rattle.coder_core.proofs.StablePlan.{frame_cells-same}
 use Rattle.remux_core.specs.Multiplex.{broadcast, frame_tag}
+use Rattle.seg_receiver.specs.CellStream.{first_version}
 use Rattle.seg_receiver.specs.Received.{received}
-use Rattle.seg_receiver.specs.Delivered.{HasMode, delivered, ArePackets}
+use Rattle.seg_receiver.specs.Delivered.{SendsIn, delivered, ArePackets}
 use Rattle.seg_receiver.specs.Composed.{broadcast_stream, HaveSize}
 use Rattle.seg_receiver.proofs.RangeCuts.{cut_at, length-sized}
 use Rattle.seg_receiver.proofs.BroadcastSlots.{head-ordered_frame, packet_in-ordered_frame}
@@ -129,8 +130,8 @@ coded-broadcast p frames count plan sizes =
 pub sizes_of : (p : Schedule) (frames : FramePackets) (count : ℕ) → ArePackets p frames count → HaveSize p frames count
 sizes_of p frames count packets f j x l h used k = (packets f j x l h used k).0.size
 
-pub received-broadcast : (mode : Mode) (guard : Guard) (p : Schedule) (frames : FramePackets) (count : ℕ) → IsPlan p → HasMode mode guard p → ArePackets p frames count
-    → received mode guard (product (coded_frame p (broadcast_stream p frames count)) count) count ≡ delivered p frames count
-received-broadcast mode guard p frames count plan has packets =
-    ap (λ stream. received mode guard stream count) (coded-broadcast p frames count plan (sizes_of p frames count packets))
-    ∙ received-near mode guard p frames count (product (frame_cells p frames) count) plan has packets (plan_cells-near mode p frames count plan (λ f. (has f).0) packets)
+pub received-broadcast : (mode : Mode) (guard : Guard) (p : Schedule) (frames : FramePackets) (count : ℕ) → IsPlan p → SendsIn mode guard p count → ArePackets p frames count
+    → received (first_version mode guard (product (coded_frame p (broadcast_stream p frames count)) count)) count ≡ delivered p frames count
+received-broadcast mode guard p frames count plan sends packets =
+    ap (λ stream. received (first_version mode guard stream) count) (coded-broadcast p frames count plan (sizes_of p frames count packets))
+    ∙ received-near (first_version mode guard (product (frame_cells p frames) count)) p frames count plan packets (plan_cells-near mode guard p frames count plan sends packets)

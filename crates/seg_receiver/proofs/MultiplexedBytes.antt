@@ -14,8 +14,9 @@ use Rattle.coder_core.specs.CodeRefusals.{coded_frame}
 use Rattle.remux_core.specs.Multiplex.{filled, placed_before, multiplexed, written_frame}
 use Rattle.remux_core.specs.Parts.{IsGood}
 use Rattle.remux_core.proofs.Parts.{first_byte}
+use Rattle.seg_receiver.specs.CellStream.{first_version}
 use Rattle.seg_receiver.specs.Received.{received}
-use Rattle.seg_receiver.specs.Delivered.{HasMode, delivered, ArePackets}
+use Rattle.seg_receiver.specs.Delivered.{SendsIn, delivered, ArePackets}
 use Rattle.seg_receiver.proofs.FoundFrames.{received-broadcast}
 
 null-packet : IsPacket null_packet
@@ -64,7 +65,7 @@ multiplexed-packet p input good all f x j =
 pub multiplexed-packets : (p : Schedule) (input : Layer → List ℕ) (count : ℕ) → ((x : Layer) → IsGood (input x)) → ((x : Layer) → IsBytes (input x)) → ArePackets p (multiplexed p input) count
 multiplexed-packets p input count good all = λ f j x l h used k. multiplexed-packet p input good all f x j
 
-pub received-chain : (mode : Mode) (guard : Guard) (p : Schedule) (input : Layer → List ℕ) (count : ℕ) → IsPlan p → HasMode mode guard p → ((x : Layer) → IsGood (input x)) → ((x : Layer) → IsBytes (input x))
-    → received mode guard (product (coded_frame p (product (written_frame p input) count)) count) count ≡ delivered p (multiplexed p input) count
-received-chain mode guard p input count plan has good all =
-    received-broadcast mode guard p (multiplexed p input) count plan has (multiplexed-packets p input count good all)
+pub received-chain : (mode : Mode) (guard : Guard) (p : Schedule) (input : Layer → List ℕ) (count : ℕ) → IsPlan p → SendsIn mode guard p count → ((x : Layer) → IsGood (input x)) → ((x : Layer) → IsBytes (input x))
+    → received (first_version mode guard (product (coded_frame p (product (written_frame p input) count)) count)) count ≡ delivered p (multiplexed p input) count
+received-chain mode guard p input count plan sends good all =
+    received-broadcast mode guard p (multiplexed p input) count plan sends (multiplexed-packets p input count good all)

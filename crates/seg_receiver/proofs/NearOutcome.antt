@@ -1,11 +1,9 @@
 -- No frame of a stream with a plan's words is refused.
-use Rattle.std.proofs.Common.{◌≡◌, ℕ, zero, suc, ◌+◌, ◌*◌, ◌%◌, ◌≤◌, ◌<◌, Bool, true, false, List, length, refl, arith, ap, ◌∙◌, inl, inr, Some, None}
+use Rattle.std.proofs.Common.{◌≡◌, ℕ, zero, suc, ◌+◌, ◌-◌, ◌*◌, ◌%◌, ◌≤◌, ◌<◌, Bool, true, false, List, length, refl, arith, ap, ◌∙◌, inl, inr, Some, None}
 use Rattle.std.specs.Prelude.{◌==◌, nat_lt}
 use Rattle.std.specs.Int.{from_bool}
-use Rattle.std.proofs.Math.Nat.{mul-le-mul_right}
 use Rattle.std.proofs.lemmas.Bool.{lt-ltb, le-ltb, ne_eqb, eq-eqb}
 use Rattle.std.proofs.lemmas.Bool.Decides.{eqb_tells}
-use Rattle.isdbt_base.specs.declared.kinds.Mode.{Mode}
 use Rattle.isdbt_base.specs.Bits.{bits_number}
 use Rattle.isdbt_base.specs.Parameters.{Parameters}
 use Rattle.isdbt_base.specs.Plans.{Schedule, at_frame, IsPlan}
@@ -14,7 +12,7 @@ use Rattle.tmcc_word.specs.Words.{setting_field}
 use Rattle.tmcc_word.specs.Reading.{read}
 use Rattle.coder_core.specs.SentCells.{plan_word, plan_info, frame_size}
 use Rattle.coder_core.proofs.PlanWords.{read-plan_word}
-use Rattle.seg_receiver.specs.CellStream.{stream_word}
+use Rattle.seg_receiver.specs.CellStream.{View, AreInRow}
 use Rattle.seg_receiver.specs.ReceiveRefusals.{receive_is_there, same_setting, expected, is_had, behind_refusal, part_refusal, word_refusal, said_before, receive_refusal}
 use Rattle.seg_receiver.proofs.NextSettings.{next_setting-zero, setting-stays}
 
@@ -47,35 +45,55 @@ part-fine f true s h = rw (h refl) refl
 behind-fine : (p : Schedule) (f : ℕ) → IsPlan p → behind_refusal (suc f) (Some (plan_info p f, f % 2 == 1)) (plan_info p (suc f), suc f % 2 == 1) ≡ None
 behind-fine p f plan = rw (odd-turns f, is_had-plan p f plan) refl
 
-words-fine : (mode : Mode) (p : Schedule) (stream : List ℕ) (partial : Bool) (f : ℕ) → IsPlan p → ((g : ℕ) → g ≤ f → stream_word mode stream g ≡ plan_word p g) → (partial ≡ true → (at_frame p f).setting.partial ≡ true) →
-    word_refusal f partial (said_before mode stream f) (read (stream_word mode stream f)) ≡ None
-words-fine mode p stream partial zero plan same asked =
+words-fine : (v : View) (p : Schedule) (partial : Bool) (f : ℕ) → IsPlan p → ((g : ℕ) → g ≤ f → v.word g ≡ plan_word p g) → (partial ≡ true → (at_frame p f).setting.partial ≡ true) →
+    word_refusal f partial (said_before v f) (read (v.word f)) ≡ None
+words-fine v p partial zero plan same asked =
     let said = ap read (same 0 (omega arith)) ∙ read-plan_word p 0 plan in
     rw (said, part-fine 0 partial (at_frame p 0).setting asked) refl
-words-fine mode p stream partial (suc f) plan same asked =
+words-fine v p partial (suc f) plan same asked =
     let said = ap read (same (suc f) (omega arith)) ∙ read-plan_word p (suc f) plan in
     let before = ap read (same f (omega arith)) ∙ read-plan_word p f plan in
     rw (said, before, behind-fine p f plan, part-fine (suc f) partial (at_frame p (suc f)).setting asked) refl
 
 -- ---- frames
 
-there : (mode : Mode) (stream : List ℕ) (count f : ℕ) → length stream ≡ count * frame_size mode → f < count → receive_is_there mode stream f ≡ true
-there mode stream count f whole h = lt-ltb (f * frame_size mode) (length stream) (let d : f + 1 ≤ count = omega arith in let k = mul-le-mul_right (frame_size mode) d in omega (arith, k, whole))
+-- a frame of a row begins before the next
+rises : (v : View) (count f : ℕ) → AreInRow v count → f < count → v.starts f < v.starts (f + 1)
+rises v count f row less = (let e = row f less in let some : 0 < frame_size (v.mode f) = omega arith in omega (arith, e, some))
 
--- no frame of a stream with a plan's words is refused
-pub near_outcome : (mode : Mode) (p : Schedule) (stream : List ℕ) (partial : Bool) (count limit : ℕ) → IsPlan p → length stream ≡ count * frame_size mode → ((f : ℕ) → f < count → stream_word mode stream f ≡ plan_word p f) →
+-- and no later than those behind it
+starts-le : (v : View) (count f d : ℕ) → AreInRow v count → f + d ≤ count → v.starts f ≤ v.starts (f + d)
+starts-le v count f zero row fits = (let e = ap v.starts (let z : f + 0 ≡ f = omega arith in z) in omega (arith, e))
+starts-le v count f (suc d) row fits =
+    let so_far = starts-le v count f d row (omega (arith, fits)) in
+    let more = rises v count (f + d) row (omega (arith, fits)) in
+    let e = ap v.starts (let z : f + d + 1 ≡ f + suc d = omega arith in z) in
+    omega (arith, so_far, more, e)
+
+-- each frame of a row ends within the whole
+ends_within : (v : View) (count f : ℕ) → AreInRow v count → v.size ≡ v.starts count → f < count → v.starts (f + 1) ≤ v.size
+ends_within v count f row whole less =
+    let le = starts-le v count (f + 1) (count - (f + 1)) row (omega (arith, less)) in
+    let e = ap v.starts (let z : f + 1 + (count - (f + 1)) ≡ count = omega (arith, less) in z) in
+    omega (arith, le, e, whole)
+
+there : (v : View) (count f : ℕ) → AreInRow v count → v.size ≡ v.starts count → f < count → receive_is_there v f ≡ true
+there v count f row whole h = lt-ltb (v.starts f) v.size (let before = rises v count f row h in let within = ends_within v count f row whole h in omega (arith, before, within))
+
+-- no frame of a view in a row with a plan's words is refused
+pub near_outcome : (v : View) (p : Schedule) (partial : Bool) (count limit : ℕ) → IsPlan p → AreInRow v count → v.size ≡ v.starts count → ((f : ℕ) → f < count → v.word f ≡ plan_word p f) →
     ((f : ℕ) → f < count → partial ≡ true → (at_frame p f).setting.partial ≡ true) → count ≤ limit →
-    IsOutcome (receive_refusal mode partial stream limit) (receive_is_there mode stream) count None
+    IsOutcome (receive_refusal v partial limit) (receive_is_there v) count None
 unfolding receive_refusal
-near_outcome mode p stream partial count limit plan whole words asked few =
-    let over : receive_is_there mode stream count ≡ false = le-ltb (count * frame_size mode) (length stream) (omega (arith, whole)) in
+near_outcome v p partial count limit plan row whole words asked few =
+    let over : receive_is_there v count ≡ false = le-ltb (v.starts count) v.size (omega (arith, whole)) in
     record {
       before = λ f h. (
-        (let here = there mode stream count f whole h in
-            let fits : nat_lt (length stream) ((f + 1) * frame_size mode) ≡ false = le-ltb (length stream) ((f + 1) * frame_size mode) (let d : f + 1 ≤ count = omega arith in let k = mul-le-mul_right (frame_size mode) d in omega (arith, k, whole)) in
-            let soon : (f == limit) ≡ false = ne_eqb f limit (λ e. omega (arith, e)) in
-            rw (here, soon, fits, words-fine mode p stream partial f plan (λ g k. words g (omega arith)) (asked f h)) refl),
-        there mode stream count f whole h,
+        (let here = there v count f row whole h in
+            let fits : nat_lt v.size (v.starts (f + 1)) ≡ false = le-ltb v.size (v.starts (f + 1)) (ends_within v count f row whole h) in
+            let soon : (f == limit) ≡ false = ne_eqb f limit (λ e. omega (arith, e, h, few)) in
+            rw (here, soon, fits, words-fine v p partial f plan (λ g k. words g (omega (arith, h, k))) (asked f h)) refl),
+        there v count f row whole h,
       );
       at = rw over refl;
       done = λ e. over;

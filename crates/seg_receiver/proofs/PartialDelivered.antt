@@ -15,15 +15,13 @@ use Rattle.cell_map.specs.Levels.{bits_of}
 use Rattle.tmcc_word.specs.Reading.{read}
 use Rattle.layer_chain.specs.OuterWords.{given_out}
 use Rattle.layer_chain.proofs.StableWords.{given_out-same}
-use Rattle.coder_core.specs.SentCells.{plan_info, frame_cells}
+use Rattle.coder_core.specs.SentCells.{plan_info}
 use Rattle.coder_core.proofs.PlanEpochs.{setting_accepted}
 use Rattle.coder_core.proofs.PlanWords.{read-plan_word}
-use Rattle.seg_receiver.specs.CellStream.{FrameCells, stream_word, stream_cell, segment_cells}
+use Rattle.seg_receiver.specs.CellStream.{FrameCells, segment_cells, View}
 use Rattle.seg_receiver.specs.Received.{epoch_start, place_bits, partial_packets, word_partial, partial_frame, received_partial}
-use Rattle.seg_receiver.specs.Delivered.{KeepsMode, into_epoch, delivered_packets, delivered_partial_frame, delivered_partial, ArePackets, IsNearPartial}
-use Rattle.seg_receiver.proofs.PlanModes.{PacketsIn, packets_in}
+use Rattle.seg_receiver.specs.Delivered.{into_epoch, delivered_packets, delivered_partial_frame, delivered_partial, ArePackets, IsNearPartial}
 use Rattle.seg_receiver.proofs.NearDelivered.{epoch_start-plan, given_out-near}
-use Rattle.seg_receiver.proofs.CleanDelivered.{plan_cells-near}
 
 -- a layer of one segment is read from segment 0 alone
 one_segment : (mode : Mode) (l : LayerParameters) (cell : FrameCells) (start y w : ℕ) → l.segments ≡ 1 → w < layer_cells mode l →
@@ -33,50 +31,39 @@ one_segment mode l cell start y w one h =
     let none : 0 ≡ 0 + w / carriers mode = (let e = div-eq_of_lt {n = w} {m = carriers mode} (omega (arith, size)) in omega (arith, e)) in
     ap (λ segment. bits_of l.modulation (cell (start + y / 204) (y % 204) segment (w % carriers mode))) none
 
-given_out-partial : (mode : Mode) (p : Schedule) (frames : FramePackets) (count : ℕ) (stream : List ℕ) → IsPlan p → KeepsMode mode p → PacketsIn mode p frames count → IsNearPartial mode p frames count stream →
-    (f j : ℕ) → f < count → j < packets_per_frame mode (at_frame p f).setting.a →
-    given_out mode (at_frame p f).setting.a (place_bits mode (at_frame p f).setting.a (λ g k segment carrier. segment_cells (stream_cell mode stream) g k carrier) (at_frame p f).start 0) (into_epoch p f) j ≡ delivered_packets p frames f A j
-given_out-partial mode p frames count stream plan keeps packets near f j h k =
-    let l = (at_frame p f).setting.a in
-    let start = (at_frame p f).start in
-    let cell = stream_cell mode stream in
-    let accepted = setting_accepted p f plan in
-    let single = accepted.partial (near.partial f h) in
-    given_out-same mode l (place_bits mode l (λ g k segment carrier. segment_cells cell g k carrier) start 0) (place_bits mode l cell start 0) (into_epoch p f) j accepted.a_segments k
-    (λ y w ly lw. one_segment mode l cell start y w single lw)
-    ∙ given_out-near mode p frames count stream A plan keeps packets near.close f j l h refl k
+module _ (v : View) (p : Schedule) (frames : FramePackets) (count : ℕ) (plan : IsPlan p) (packets : ArePackets p frames count) (near : IsNearPartial v p frames count) where
+  given_out-partial : (f j : ℕ) → f < count → j < packets_per_frame (at_frame p f).mode (at_frame p f).setting.a →
+      given_out (at_frame p f).mode (at_frame p f).setting.a (place_bits (at_frame p f).mode (at_frame p f).setting.a (λ g k segment carrier. segment_cells v.cell g k carrier) (at_frame p f).start 0) (into_epoch p f) j ≡ delivered_packets p frames f A j
+  given_out-partial f j h k =
+      let mode = (at_frame p f).mode in
+      let l = (at_frame p f).setting.a in
+      let start = (at_frame p f).start in
+      let accepted = setting_accepted p f plan in
+      let single = accepted.partial (near.partial f h) in
+      given_out-same mode l (place_bits mode l (λ g k segment carrier. segment_cells v.cell g k carrier) start 0) (place_bits mode l v.cell start 0) (into_epoch p f) j accepted.a_segments k
+      (λ y w ly lw. one_segment mode l v.cell start y w single lw)
+      ∙ given_out-near v p frames count A plan packets near.close f j l h refl k
 
-partial_frame-near : (mode : Mode) (p : Schedule) (frames : FramePackets) (count : ℕ) (stream : List ℕ) → IsPlan p → KeepsMode mode p → PacketsIn mode p frames count → IsNearPartial mode p frames count stream → (f : ℕ) → f < count →
-    partial_frame mode (stream_word mode stream) (segment_cells (stream_cell mode stream)) f ≡ delivered_partial_frame p frames f
-unfolding partial_frame
-partial_frame-near mode p frames count stream plan keeps packets near f h =
-    let words = stream_word mode stream in
-    let cell = segment_cells (stream_cell mode stream) in
-    let l = (at_frame p f).setting.a in
-    let start = (at_frame p f).start in
-    let said : read (words f) ≡ Ok (plan_info p f, f % 2 == 1) = ap read (near.words f h) ∙ read-plan_word p f plan in
-    let begun : epoch_start words f ≡ (at_frame p f).start = epoch_start-plan p words f plan (λ g k. near.words g (omega arith)) in
-    let alike : partial_packets mode l cell start (into_epoch p f)
-    ≡ (if nat_le (layer_delay mode l) (into_epoch p f) then flat_map (delivered_packets p frames f A) (range_with_len 0 (packets_per_frame mode l)) else []) =
-    ap (λ xs. if nat_le (layer_delay mode l) (into_epoch p f) then xs else [])
-    (flat_map-same (given_out mode l (place_bits mode l (λ g k segment carrier. cell g k carrier) start 0) (into_epoch p f)) (delivered_packets p frames f A) 0 (packets_per_frame mode l)
-    (λ j a k. given_out-partial mode p frames count stream plan keeps packets near f j h (omega arith))) in
-    ap (word_partial mode cell (epoch_start words f) f) said
-    ∙ ap (λ u. partial_packets mode l cell u (f - u)) begun
-    ∙ alike
-    ∙ ap (λ m. if nat_le (layer_delay m l) (into_epoch p f) then flat_map (delivered_packets p frames f A) (range_with_len 0 (packets_per_frame m l)) else []) (sym (keeps f))
+  pub partial_frame-near : (f : ℕ) → f < count → partial_frame v f ≡ delivered_partial_frame p frames f
+  unfolding partial_frame
+  partial_frame-near f h =
+      let mode = (at_frame p f).mode in
+      let cell = segment_cells v.cell in
+      let l = (at_frame p f).setting.a in
+      let start = (at_frame p f).start in
+      let said : read (v.word f) ≡ Ok (plan_info p f, f % 2 == 1) = ap read (near.words f h) ∙ read-plan_word p f plan in
+      let begun : epoch_start v.word f ≡ (at_frame p f).start = epoch_start-plan p v.word f plan (λ g k. near.words g (omega (arith, h, k))) in
+      let alike : partial_packets mode l cell start (into_epoch p f)
+      ≡ (if nat_le (layer_delay mode l) (into_epoch p f) then flat_map (delivered_packets p frames f A) (range_with_len 0 (packets_per_frame mode l)) else []) =
+      ap (λ xs. if nat_le (layer_delay mode l) (into_epoch p f) then xs else [])
+      (flat_map-same (given_out mode l (place_bits mode l (λ g k segment carrier. cell g k carrier) start 0) (into_epoch p f)) (delivered_packets p frames f A) 0 (packets_per_frame mode l)
+      (λ j a k. given_out-partial f j h (omega (arith, k)))) in
+      ap (λ m. word_partial m cell (epoch_start v.word f) f (read (v.word f))) (near.modes f h)
+      ∙ ap (word_partial mode cell (epoch_start v.word f) f) said
+      ∙ ap (λ u. partial_packets mode l cell u (f - u)) begun
+      ∙ alike
 
--- near cells of a plan with partial reception are delivered
-pub received_partial-near : (mode : Mode) (p : Schedule) (frames : FramePackets) (count : ℕ) (stream : List ℕ) → IsPlan p → KeepsMode mode p → ArePackets p frames count → IsNearPartial mode p frames count stream →
-    received_partial mode (stream_word mode stream) (segment_cells (stream_cell mode stream)) count ≡ delivered_partial p frames count
-unfolding product
-received_partial-near mode p frames count stream plan keeps packets near =
-    flat_map-same (partial_frame mode (stream_word mode stream) (segment_cells (stream_cell mode stream))) (delivered_partial_frame p frames) 0 count (λ f a h.
-    partial_frame-near mode p frames count stream plan keeps (packets_in mode p frames count keeps packets) near f (omega arith))
-
--- and the cells of such a plan are near
-pub plan_cells-near_partial : (mode : Mode) (p : Schedule) (frames : FramePackets) (count : ℕ) → IsPlan p → KeepsMode mode p → ArePackets p frames count → ((f : ℕ) → f < count → (at_frame p f).setting.partial ≡ true) →
-    IsNearPartial mode p frames count (product (frame_cells p frames) count)
-plan_cells-near_partial mode p frames count plan keeps packets partial =
-    let near = plan_cells-near mode p frames count plan keeps packets in
-    record { whole = near.whole; words = near.words; close = near.close A; partial = partial }
+  -- near cells of a plan with partial reception are delivered
+  pub received_partial-near : received_partial v count ≡ delivered_partial p frames count
+  unfolding product
+  received_partial-near = flat_map-same (partial_frame v) (delivered_partial_frame p frames) 0 count (λ f a h. partial_frame-near f (omega (arith, h)))

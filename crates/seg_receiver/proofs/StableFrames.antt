@@ -5,7 +5,6 @@ use Rattle.std.proofs.lemmas.Nat.{div_below, mod_below}
 use Rattle.std.proofs.lemmas.Bool.{cond_both}
 use Rattle.isdbt_base.proofs.OptionLaws.{option_cases, result_cases}
 use Rattle.isdbt_base.specs.declared.kinds.Mode.{Mode}
-use Rattle.isdbt_base.specs.declared.kinds.Guard.{Guard}
 use Rattle.isdbt_base.specs.declared.kinds.Layer.{Layer}
 use Rattle.isdbt_base.specs.LayerParameters.{LayerParameters}
 use Rattle.isdbt_base.specs.Parameters.{Parameters, IsAccepted, layer_of, number_of}
@@ -19,7 +18,7 @@ use Rattle.tmcc_word.proofs.Accepted.{read-fits}
 use Rattle.layer_chain.specs.OuterWords.{given_out}
 use Rattle.layer_chain.proofs.StableWords.{given_out-same}
 use Rattle.coder_core.proofs.SegmentCells.{carriers-positive}
-use Rattle.seg_receiver.specs.CellStream.{FrameCells, CellsAgreeUpTo}
+use Rattle.seg_receiver.specs.CellStream.{FrameCells, CellsAgreeUpTo, View, AgreeUpTo}
 use Rattle.seg_receiver.specs.Received.{countdown_read, epoch_start, place_bits, setting_packet, word_packet, received_packets, tag_read, word_frame, received_frame}
 use Rattle.seg_receiver.proofs.CleanDelivered.{has_segments, segment-lt}
 
@@ -47,10 +46,9 @@ given_out-alike mode s x l cell other start f j accepted used before same k =
     let row : w / carriers mode < l.segments = div_below w (carriers mode) l.segments (carriers-positive mode) lw in
     ap (bits_of l.modulation) (same (start + y / 204) (y % 204) (first + w / carriers mode) (w % carriers mode) (omega (arith, before)) (omega arith) (segment-lt s x l (w / carriers mode) accepted used row) (mod_below w (carriers mode) (carriers-positive mode))))
 
-received_packets-same : (mode : Mode) (words other : ℕ → List Bool) (cell cells : FrameCells) (f j : ℕ) (x : Layer) (i : TmccFields × Bool) → read (words f) ≡ Ok i → read (other f) ≡ Ok i → epoch_start words f ≡ epoch_start other f →
-    CellsAgreeUpTo mode f cell cells → j < number_of (packets_per_frame mode) (layer_of i.0.now x) → received_packets mode words cell f x j ≡ received_packets mode other cells f x j
-unfolding received_packets
-received_packets-same mode words other cell cells f j x i said too start same k =
+word_packet-same : (mode : Mode) (words other : ℕ → List Bool) (cell cells : FrameCells) (f j : ℕ) (x : Layer) (i : TmccFields × Bool) → read (words f) ≡ Ok i → read (other f) ≡ Ok i → epoch_start words f ≡ epoch_start other f →
+    CellsAgreeUpTo mode f cell cells → j < number_of (packets_per_frame mode) (layer_of i.0.now x) → word_packet mode cell (epoch_start words f) f x j (read (words f)) ≡ word_packet mode cells (epoch_start other f) f x j (read (other f))
+word_packet-same mode words other cell cells f j x i said too start same k =
     let s = i.0.now in
     let begun = epoch_start other f in
     let fits = read-fits (words f) i said in
@@ -65,22 +63,33 @@ received_packets-same mode words other cell cells f j x i said too start same k 
     ]
     ∙ sym (ap (word_packet mode cells begun f x j) too)
 
--- words and cells that are alike in the frames up to f give the same output frame f
-pub received_frame-same : (mode : Mode) (guard : Guard) (words other : ℕ → List Bool) (cell cells : FrameCells) (f : ℕ) → ((g : ℕ) → g ≤ f → words g ≡ other g) → CellsAgreeUpTo mode f cell cells →
-    received_frame mode guard words cell f ≡ received_frame mode guard other cells f
+received_packets-same : (v w : View) (f j : ℕ) (x : Layer) (i : TmccFields × Bool) → AgreeUpTo f v w → read (v.word f) ≡ Ok i → read (w.word f) ≡ Ok i → epoch_start v.word f ≡ epoch_start w.word f →
+    j < number_of (packets_per_frame (v.mode f)) (layer_of i.0.now x) → received_packets v f x j ≡ received_packets w f x j
+unfolding received_packets
+received_packets-same v w f j x i alike said too start k =
+    word_packet-same (v.mode f) v.word w.word v.cell w.cell f j x i said too start alike.cells k
+    ∙ ap (λ m. word_packet m w.cell (epoch_start w.word f) f x j (read (w.word f))) alike.same_mode
+
+-- views that are alike up to f give the same output frame f
+pub received_frame-same : (v w : View) (f : ℕ) → AgreeUpTo f v w → received_frame v f ≡ received_frame w f
 unfolding received_frame
-received_frame-same mode guard words other cell cells f alike same =
-    let start = epoch_start-same words other f (λ g h. alike g (omega arith)) in
-    let begun = epoch_start other f in
-    let got = received_packets mode words cell f in
-    let due = received_packets mode other cells f in
-    elim (result_cases (read (words f))) [
-      | inr refused ↦ (let too = ap read (sym (alike f (omega arith))) ∙ refused.1 in
-          ap (word_frame mode guard (epoch_start words f) f got) refused.1 ∙ sym (ap (word_frame mode guard begun f due) too))
+received_frame-same v w f alike =
+    let mode = v.mode f in
+    let guard = v.guard f in
+    let start = epoch_start-same v.word w.word f (λ g h. alike.words g (omega (arith, h))) in
+    let begun = epoch_start w.word f in
+    let got = received_packets v f in
+    let due = received_packets w f in
+    let same = ap read (sym (alike.words f (omega arith))) in
+    elim (result_cases (read (v.word f))) [
+      | inr refused ↦ (let too = same ∙ refused.1 in
+          ap (word_frame mode guard (epoch_start v.word f) f got) refused.1 ∙ sym (ap (word_frame mode guard begun f due) too))
       | inl said ↦ (let i = said.0 in
-          let too = ap read (sym (alike f (omega arith))) ∙ said.1 in
-          ap (word_frame mode guard (epoch_start words f) f got) said.1
+          let too = same ∙ said.1 in
+          ap (word_frame mode guard (epoch_start v.word f) f got) said.1
           ∙ ap (λ u. ordered_frame mode guard i.0.now (tag_read i u f) got) start
-          ∙ ordered_frame-same mode guard i.0.now (tag_read i begun f) got due (λ m k. received_packets-same mode words other cell cells f m.index m.layer i said.1 too start same k)
+          ∙ ordered_frame-same mode guard i.0.now (tag_read i begun f) got due (λ m k. received_packets-same v w f m.index m.layer i alike said.1 too start k)
           ∙ sym (ap (word_frame mode guard begun f due) too))
     ]
+    ∙ ap (λ m. word_frame m guard begun f due (read (w.word f))) alike.same_mode
+    ∙ ap (λ g. word_frame (w.mode f) g begun f due (read (w.word f))) alike.same_guard

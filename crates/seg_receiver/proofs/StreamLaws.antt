@@ -6,6 +6,7 @@ use Rattle.std.proofs.lemmas.Nat.{mul-add-lt, div-mul-add, mod-mul-add}
 use Rattle.std.proofs.lemmas.List.FromFn.{fill_by_all}
 use Rattle.isdbt_base.proofs.OptionLaws.{option_cases}
 use Rattle.isdbt_base.specs.declared.kinds.Mode.{Mode}
+use Rattle.isdbt_base.specs.declared.kinds.Guard.{Guard}
 use Rattle.isdbt_base.specs.LayerParameters.{LayerParameters}
 use Rattle.isdbt_base.specs.Parameters.{Parameters, layer_of}
 use Rattle.isdbt_base.specs.Numbers.{carriers, first_segment}
@@ -17,9 +18,14 @@ use Rattle.layer_chain.specs.CodedBits.{layer_coded_bit}
 use Rattle.layer_chain.specs.LayerCells.{cell_bits_at}
 use Rattle.tmcc_word.proofs.ReadBack.{length-word_of}
 use Rattle.coder_core.specs.SentCells.{epoch_packet, layer_cell_at, segment_layer, cell_in, epoch_cell, cell_bytes, symbol_bytes, epoch_frame_cells, plan_info, plan_word, frame_size}
-use Rattle.seg_receiver.specs.CellStream.{symbol_size, tmcc_bit, stream_word, stream_cell}
+use Rattle.seg_receiver.specs.CellStream.{symbol_size, tmcc_bit, stream_word, stream_cell, first_version, AreInRow}
 use Rattle.seg_receiver.proofs.Pieces.{length-pieces, get_or-pieces}
 use Rattle.seg_receiver.proofs.PlanModes.{plan_frame, plan_cells}
+
+-- ---- frames in a row
+
+pub in_row : (mode : Mode) (guard : Guard) (stream : List ℕ) (count : ℕ) → AreInRow (first_version mode guard stream) count
+in_row mode guard stream count = λ f less. omega arith
 
 -- ---- sizes
 

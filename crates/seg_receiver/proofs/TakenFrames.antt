@@ -1,5 +1,5 @@
 -- What the check of a frame says of the stream.
-use Rattle.std.proofs.Common.{◌≡◌, ℕ, ◌*◌, ◌<◌, Bool, false, List, [], ◌∷◌, length, drop, subst, sym, inl, inr}
+use Rattle.std.proofs.Common.{◌≡◌, ℕ, ◌*◌, ◌<◌, Bool, false, List, [], ◌∷◌, length, drop, refl, subst, sym, inl, inr}
 use Rattle.std.specs.Prelude.{Some, None, Ok, Err, IfSome, if◌then◌else◌, not, ◌&&◌, ◌==◌}
 use Rattle.std.specs.Int.{from_bool}
 use Rattle.std.specs.declared.option.Option.{Option}
@@ -10,29 +10,26 @@ use Rattle.isdbt_base.specs.declared.kinds.Guard.{Guard}
 use Rattle.isdbt_base.specs.Outcome.{first_some}
 use Rattle.isdbt_base.specs.Parameters.{Parameters}
 use Rattle.edge_io.specs.Causes.{Cause}
+use Rattle.edge_io.specs.FrameAnswers.{frame_refused, Refused, FaultAnswer, LoneCommand, TookAtMost, lone_account, LoneAnswer}
 use Rattle.tmcc_word.specs.declared.fault.TmccFault.{TmccFault}
 use Rattle.tmcc_word.specs.declared.fault.TmccFault.TheVariants as words
 use Rattle.tmcc_word.specs.Fields.{TmccFields}
 use Rattle.tmcc_word.specs.Reading.{read}
 use Rattle.coder_core.specs.SentCells.{frame_size}
 use Rattle.seg_receiver.specs.declared.fault.ReceiveFault.{ReceiveFault}
-use Rattle.seg_receiver.specs.declared.fault.ReceiveFault.TheVariants.{Truncated, BadTmcc, Unannounced, NotPartial, ReadFault, WriteFault, TooLong, NoMemory}
-use Rattle.seg_receiver.specs.CellStream.{stream_word}
+use Rattle.seg_receiver.specs.declared.fault.ReceiveFault.TheVariants.{BadTmcc, Unannounced, NotPartial}
+use Rattle.seg_receiver.specs.CellStream.{stream_word, first_version}
 use Rattle.seg_receiver.specs.ReceiveRefusals.{expected, is_had, behind_refusal, part_refusal, word_refusal}
-use Rattle.seg_receiver.specs.ReceiveAnswers.{Refused, ReceiveAnswer}
+use Rattle.seg_receiver.specs.ReceiveAnswers.{receive_kind, receive_command}
 use Rattle.seg_receiver.specs.FrameReading.{Came}
-use Rattle.seg_receiver.specs.EpochAnswers.{FrameRefused, FrameCheck, Progress, TakeAnswer, TakeCause}
-use Rattle.seg_receiver.proofs.ReceiveProgress.{nothing_came, frame_refused, taken_frame}
+use Rattle.seg_receiver.specs.EpochAnswers.{FrameRefused, FrameCheck, Progress, TakeAnswer, TakeFault, TakeCause}
+use Rattle.seg_receiver.proofs.ReceiveProgress.{nothing_came, frame-refused, taken_frame}
 
 -- ---- the kinds of faults
 
 -- a fault of a frame
 abbrev pub OfFrame : ReceiveFault → Type 0
-OfFrame (Truncated seat over) = Unit {0}
-OfFrame (BadTmcc frame reason) = Unit {0}
-OfFrame (Unannounced frame) = Unit {0}
-OfFrame (NotPartial frame) = Unit {0}
-OfFrame fault = ⊥
+OfFrame fault = receive_kind fault ≡ frame_refused
 
 either-kind : (a b : Option ReceiveFault) → IfSome a OfFrame → IfSome b OfFrame → IfSome (first_some (a ∷ b ∷ [])) OfFrame
 either-kind (Some x) b ka kb = ka
@@ -43,52 +40,38 @@ behind-kind : (f : ℕ) (before : Option (TmccFields × Bool)) (said : TmccField
 behind-kind f None said = tt
 behind-kind f (Some before) said =
     cond_both (from_bool before.1 == from_bool said.1) (Some (BadTmcc f words.Sync)) (if is_had (expected before.0) said.0.now then None else Some (Unannounced f)) (λ o. IfSome o OfFrame)
-    (λ e. tt) (λ e. cond_both (is_had (expected before.0) said.0.now) None (Some (Unannounced f)) (λ o. IfSome o OfFrame) (λ e. tt) (λ e. tt))
+    (λ e. refl) (λ e. cond_both (is_had (expected before.0) said.0.now) None (Some (Unannounced f)) (λ o. IfSome o OfFrame) (λ e. tt) (λ e. refl))
 
 part-kind : (f : ℕ) (partial : Bool) (s : Parameters) → IfSome (part_refusal f partial s) OfFrame
-part-kind f partial s = cond_both (partial && not s.partial) (Some (NotPartial f)) None (λ o. IfSome o OfFrame) (λ e. tt) (λ e. tt)
+part-kind f partial s = cond_both (partial && not s.partial) (Some (NotPartial f)) None (λ o. IfSome o OfFrame) (λ e. refl) (λ e. tt)
 
 word-kind : (f : ℕ) (partial : Bool) (before : Option (TmccFields × Bool)) (r : Result (TmccFields × Bool) TmccFault) → IfSome (word_refusal f partial before r) OfFrame
-word-kind f partial before (Err reason) = tt
+word-kind f partial before (Err reason) = refl
 word-kind f partial before (Ok said) = either-kind (behind_refusal f before said) (part_refusal f partial said.0.now) (behind-kind f before said) (part-kind f partial said.0.now)
 
-pub refused-kind : (mode : Mode) (f : ℕ) (before : Option (TmccFields × Bool)) (frame : List ℕ) (count : ℕ) (fault : ReceiveFault) → FrameRefused mode f before frame count fault → OfFrame fault
-refused-kind mode f before frame count fault (inl cut) = subst OfFrame (sym cut.2) tt
-refused-kind mode f before frame count fault (inr bad) = subst (λ o. IfSome o OfFrame) bad.1 (word-kind f false before (read (stream_word mode frame 0)))
+pub refused-kind : (mode : Mode) (partial : Bool) (f : ℕ) (before : Option (TmccFields × Bool)) (frame : List ℕ) (count : ℕ) (fault : ReceiveFault) → FrameRefused mode partial f before frame count fault → OfFrame fault
+refused-kind mode partial f before frame count fault (inl cut) = subst OfFrame (sym cut.2) refl
+refused-kind mode partial f before frame count fault (inr bad) = subst (λ o. IfSome o OfFrame) bad.1 (word-kind f partial before (read (stream_word mode frame 0)))
 
-pub frame_answer : (mode : Mode) (guard : Guard) (stream : List ℕ) (limit : ℕ) (before now left : Option (List ℕ)) (fault : ReceiveFault) → OfFrame fault → Refused mode guard stream limit fault before now left → ReceiveAnswer mode guard stream limit before now left (Err fault)
-frame_answer mode guard stream limit before now left (Truncated seat over) kind e = e
-frame_answer mode guard stream limit before now left (BadTmcc frame reason) kind e = e
-frame_answer mode guard stream limit before now left (Unannounced frame) kind e = e
-frame_answer mode guard stream limit before now left (NotPartial frame) kind e = e
-frame_answer mode guard stream limit before now left (ReadFault seat) kind e = absurd kind
-frame_answer mode guard stream limit before now left WriteFault kind e = absurd kind
-frame_answer mode guard stream limit before now left TooLong kind e = e
-frame_answer mode guard stream limit before now left NoMemory kind e = absurd kind
+pub frame_answer : (c : LoneCommand ReceiveFault) (before now left : Option (List ℕ)) (fault : ReceiveFault) → OfFrame fault → Refused c.frames (TookAtMost c left) fault before now → LoneAnswer receive_kind c before now left (Err fault)
+frame_answer c before now left fault kind refused = subst (FaultAnswer c.frames (lone_account c left) before now fault) (sym kind) refused
 
 frame_cause : (shelf shelf' : Cause → ℕ) (fault : ReceiveFault) → OfFrame fault → shelf' ≡ shelf → TakeCause {X = Option (TmccFields × Bool)} shelf shelf' (Err fault)
-frame_cause shelf shelf' (Truncated seat over) kind e = e
-frame_cause shelf shelf' (BadTmcc frame reason) kind e = e
-frame_cause shelf shelf' (Unannounced frame) kind e = e
-frame_cause shelf shelf' (NotPartial frame) kind e = e
-frame_cause shelf shelf' (ReadFault seat) kind e = absurd kind
-frame_cause shelf shelf' WriteFault kind e = absurd kind
-frame_cause shelf shelf' TooLong kind e = e
-frame_cause shelf shelf' NoMemory kind e = absurd kind
+frame_cause shelf shelf' fault kind kept = subst (TakeFault shelf shelf') (sym kind) kept
 
 -- ---- what a frame says
 
-pub take_answer : (mode : Mode) (guard : Guard) (stream : List ℕ) (limit f n : ℕ) (last : Option (TmccFields × Bool)) (frame : List ℕ) (left left' before now : Option (List ℕ)) (result : Result (Option (TmccFields × Bool)) ReceiveFault)
-    → f < limit → length frame ≡ frame_size mode → Progress mode guard stream limit f last left before now → Came frame (drop (f * frame_size mode) stream) left' n → FrameCheck mode f last frame n result
-    → TakeAnswer mode guard stream limit f last frame before now left' result
-take_answer mode guard stream limit f n last frame left left' before now (Ok None) less size so_far came check =
-    nothing_came mode guard stream limit f n last frame left left' before now size check so_far came
-take_answer mode guard stream limit f n last frame left left' before now (Ok (Some said)) less size so_far came check =
-    taken_frame mode guard stream limit f n last said frame left left' before now less size check.0 check.1 check.2 so_far came
-take_answer mode guard stream limit f n last frame left left' before now (Err fault) less size so_far came check =
-    frame_answer mode guard stream limit before now left' fault (refused-kind mode f last frame n fault check)
-    (frame_refused mode guard stream limit f n fault last frame left left' before now less size so_far came check)
+pub take_answer : (mode : Mode) (guard : Guard) (partial : Bool) (stream : List ℕ) (limit f n : ℕ) (last : Option (TmccFields × Bool)) (frame : List ℕ) (left left' before now : Option (List ℕ)) (result : Result (Option (TmccFields × Bool)) ReceiveFault)
+    → f < limit → length frame ≡ frame_size mode → Progress (first_version mode guard stream) partial stream limit f last left before now → Came frame (drop (f * frame_size mode) stream) left' n → FrameCheck mode partial f last frame n result
+    → TakeAnswer (first_version mode guard stream) partial stream limit f last frame before now left' result
+take_answer mode guard partial stream limit f n last frame left left' before now (Ok None) less size so_far came check =
+    nothing_came mode guard partial stream limit f n last frame left left' before now size check so_far came
+take_answer mode guard partial stream limit f n last frame left left' before now (Ok (Some said)) less size so_far came check =
+    taken_frame mode guard partial stream limit f n last said frame left left' before now less size check.0 check.1 check.2 so_far came
+take_answer mode guard partial stream limit f n last frame left left' before now (Err fault) less size so_far came check =
+    frame_answer (receive_command (first_version mode guard stream) partial stream limit) before now left' fault (refused-kind mode partial f last frame n fault check)
+    (frame-refused mode guard partial stream limit f n fault last frame left left' before now less size so_far came check)
 
-pub take_cause : (mode : Mode) (f n : ℕ) (last : Option (TmccFields × Bool)) (frame : List ℕ) (shelf shelf' : Cause → ℕ) (result : Result (Option (TmccFields × Bool)) ReceiveFault) → FrameCheck mode f last frame n result → shelf' ≡ shelf → TakeCause shelf shelf' result
-take_cause mode f n last frame shelf shelf' (Ok o) check kept = kept
-take_cause mode f n last frame shelf shelf' (Err fault) check kept = frame_cause shelf shelf' fault (refused-kind mode f last frame n fault check) kept
+pub take_cause : (mode : Mode) (partial : Bool) (f n : ℕ) (last : Option (TmccFields × Bool)) (frame : List ℕ) (shelf shelf' : Cause → ℕ) (result : Result (Option (TmccFields × Bool)) ReceiveFault) → FrameCheck mode partial f last frame n result → shelf' ≡ shelf → TakeCause shelf shelf' result
+take_cause mode partial f n last frame shelf shelf' (Ok o) check kept = kept
+take_cause mode partial f n last frame shelf shelf' (Err fault) check kept = frame_cause shelf shelf' fault (refused-kind mode partial f last frame n fault check) kept

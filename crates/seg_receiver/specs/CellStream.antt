@@ -1,8 +1,9 @@
 -- A stream of cells as a receiver sees it: the TMCC words of its frames, and the cells by frame, symbol, segment and carrier. The layout is that of the cells that are sent.
-use Rattle.std.specs.Prelude.{◌≡◌, ◌≤◌, ◌<◌, ℕ, ◌+◌, ◌*◌, ◌%◌, Bool, ◌==◌, List, map, slice_index}
+use Rattle.std.specs.Prelude.{◌≡◌, ◌≤◌, ◌<◌, ℕ, ◌+◌, ◌*◌, ◌%◌, Bool, ◌==◌, List, length, map, slice_index}
 use Rattle.std.specs.List.{range_with_len}
 use Rattle.std.specs.Int.{w8, cast_signed}
 use Rattle.isdbt_base.specs.declared.kinds.Mode.{Mode}
+use Rattle.isdbt_base.specs.declared.kinds.Guard.{Guard}
 use Rattle.isdbt_base.specs.Numbers.{frame_symbols, carriers}
 use Rattle.cell_map.specs.declared.cell.Cell.{Cell}
 use Rattle.coder_core.specs.SentCells.{frame_size}
@@ -41,3 +42,38 @@ segment_cells cell g k carrier = cell g k 0 carrier
 -- cells that are alike in the frames up to f, at each place of a frame
 abbrev pub CellsAgreeUpTo : Mode → ℕ → FrameCells → FrameCells → Type 0
 CellsAgreeUpTo mode f cell other = (g k segment carrier : ℕ) → g ≤ f → k < frame_symbols → segment < 13 → carrier < carriers mode → cell g k segment carrier ≡ other g k segment carrier
+
+-- ---- views
+
+-- a stream of cells, however its frames are laid: its bytes, the byte at which each frame begins, the bytes of a frame's head, the mode, the guard interval and the TMCC word of each frame, and the cells
+pub record View : Type 0 where
+  pub size : ℕ
+  pub starts : ℕ → ℕ
+  pub head : ℕ
+  pub mode : ℕ → Mode
+  pub guard : ℕ → Guard
+  pub word : ℕ → List Bool
+  pub cell : FrameCells
+
+-- the first version of the stream: frames of one mode and guard interval, one behind the other with no heads
+abbrev pub first_version : Mode → Guard → List ℕ → View
+first_version mode guard stream = record {
+  size = length stream;
+  starts = λ f. f * frame_size mode;
+  head = 0;
+  mode = λ f. mode;
+  guard = λ f. guard;
+  word = stream_word mode stream;
+  cell = stream_cell mode stream;
+}
+
+-- each of the first frames ends where the next begins
+abbrev pub AreInRow : View → ℕ → Type 0
+AreInRow v count = (f : ℕ) → f < count → v.starts (f + 1) ≡ v.starts f + (v.head + frame_size (v.mode f))
+
+-- two views have the same mode and guard interval at frame f, and the same words and cells in the frames up to it
+pub record AgreeUpTo (f : ℕ) (v w : View) : Type 0 where
+  pub same_mode : v.mode f ≡ w.mode f
+  pub same_guard : v.guard f ≡ w.guard f
+  pub words : (g : ℕ) → g ≤ f → v.word g ≡ w.word g
+  pub cells : CellsAgreeUpTo (v.mode f) f v.cell w.cell

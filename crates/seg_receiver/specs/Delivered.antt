@@ -1,5 +1,5 @@
--- What is delivered of the frames of a plan, and which streams of cells are near the cells of a plan.
-use Rattle.std.specs.Prelude.{◌≡◌, ℕ, ◌+◌, ◌-◌, ◌*◌, ◌<◌, ◌≤◌, true, if◌then◌else◌, nat_le, Option, Some, None, List, [], length, flat_map}
+-- What is delivered of the frames of a plan, and which views of cells are near the cells of a plan.
+use Rattle.std.specs.Prelude.{◌≡◌, ℕ, ◌+◌, ◌-◌, ◌*◌, ◌<◌, ◌≤◌, true, if◌then◌else◌, nat_le, Option, Some, None, List, [], flat_map}
 use Rattle.std.specs.List.{range_with_len}
 use Rattle.isdbt_base.specs.declared.kinds.Mode.{Mode}
 use Rattle.isdbt_base.specs.declared.kinds.Guard.{Guard}
@@ -14,18 +14,14 @@ use Rattle.isdbt_base.specs.Outcome.{product}
 use Rattle.ts_packet.specs.Packets.{null_packet, IsPacket}
 use Rattle.gf_rs.specs.Codewords.{codeword_of, differing, IsBytes}
 use Rattle.layer_chain.specs.OuterWords.{unit_word}
-use Rattle.coder_core.specs.SentCells.{plan_word, frame_size}
+use Rattle.coder_core.specs.SentCells.{plan_word}
 use Rattle.remux_core.specs.Multiplex.{broadcast}
-use Rattle.seg_receiver.specs.CellStream.{stream_word, stream_cell}
+use Rattle.seg_receiver.specs.CellStream.{FrameCells, View}
 use Rattle.seg_receiver.specs.Received.{place_bits}
 
--- a plan sends all frames in this mode
-abbrev pub KeepsMode : Mode → Schedule → Type 0
-KeepsMode mode p = (f : ℕ) → (at_frame p f).mode ≡ mode
-
--- a plan sends all frames in this mode and with this guard interval
-abbrev pub HasMode : Mode → Guard → Schedule → Type 0
-HasMode mode guard p = (f : ℕ) → ((at_frame p f).mode ≡ mode) × ((at_frame p f).guard ≡ guard)
+-- a plan sends its first frames in this mode and with this guard interval
+abbrev pub SendsIn : Mode → Guard → Schedule → ℕ → Type 0
+SendsIn mode guard p count = (f : ℕ) → f < count → ((at_frame p f).mode ≡ mode) × ((at_frame p f).guard ≡ guard)
 
 -- how many frames of its epoch are before a frame
 abbrev pub into_epoch : Schedule → ℕ → ℕ
@@ -70,28 +66,35 @@ abbrev pub ArePackets : Schedule → FramePackets → ℕ → Type 0
 ArePackets p frames count = (f j : ℕ) (x : Layer) (l : LayerParameters) → f < count → layer_of (at_frame p f).setting x ≡ Some l → j < packets_per_frame (at_frame p f).mode l
     → IsPacket (frames f x j) × IsBytes (frames f x j)
 
--- ---- near streams
+-- ---- near views
 
--- the outer word of a layer's packet j that a receiver has for frame f
-abbrev pub outer_word_at : Mode → Schedule → List ℕ → LayerParameters → Layer → ℕ → ℕ → List ℕ
-outer_word_at mode p stream l x f j =
-    unit_word mode l (place_bits mode l (stream_cell mode stream) (at_frame p f).start (first_segment (at_frame p f).setting x)) ((into_epoch p f - layer_delay mode l) * packets_per_frame mode l + j)
+-- the outer word of a layer's packet j that a receiver of cells has for frame f, by the mode of the frame
+abbrev pub outer_word_in : Mode → FrameCells → Schedule → LayerParameters → Layer → ℕ → ℕ → List ℕ
+outer_word_in mode cell p l x f j =
+    unit_word mode l (place_bits mode l cell (at_frame p f).start (first_segment (at_frame p f).setting x)) ((into_epoch p f - layer_delay mode l) * packets_per_frame mode l + j)
+
+-- the same in the plan's mode
+abbrev pub outer_word_at : View → Schedule → LayerParameters → Layer → ℕ → ℕ → List ℕ
+outer_word_at v p l x f j = outer_word_in (at_frame p f).mode v.cell p l x f j
 
 -- each outer word of a layer that is given out differs in at most eight bytes from its packet's codeword
-abbrev pub AreWordsNear : Mode → Schedule → FramePackets → ℕ → List ℕ → Layer → Type 0
-AreWordsNear mode p frames count stream x = (f j : ℕ) (l : LayerParameters) → f < count → layer_of (at_frame p f).setting x ≡ Some l
-    → layer_delay mode l ≤ into_epoch p f → j < packets_per_frame mode l
-    → differing (outer_word_at mode p stream l x f j) (codeword_of 16 (frames (f - layer_delay mode l) x j)) ≤ 8
+abbrev pub AreWordsNear : View → Schedule → FramePackets → ℕ → Layer → Type 0
+AreWordsNear v p frames count x = (f j : ℕ) (l : LayerParameters) → f < count → layer_of (at_frame p f).setting x ≡ Some l
+    → layer_delay (at_frame p f).mode l ≤ into_epoch p f → j < packets_per_frame (at_frame p f).mode l
+    → differing (outer_word_at v p l x f j) (codeword_of 16 (frames (f - layer_delay (at_frame p f).mode l) x j)) ≤ 8
 
--- a stream is whole frames, with the plan's words, and its outer words are near for each layer
-pub record IsNear (mode : Mode) (p : Schedule) (frames : FramePackets) (count : ℕ) (stream : List ℕ) : Type 0 where
-  pub whole : length stream ≡ count * frame_size mode
-  pub words : (f : ℕ) → f < count → stream_word mode stream f ≡ plan_word p f
-  pub close : (x : Layer) → AreWordsNear mode p frames count stream x
+-- a view has so many frames and no more, each in the plan's mode, with its guard interval and its word, and its outer words are near for each layer
+pub record IsNear (v : View) (p : Schedule) (frames : FramePackets) (count : ℕ) : Type 0 where
+  pub whole : v.size ≡ v.starts count
+  pub modes : (f : ℕ) → f < count → v.mode f ≡ (at_frame p f).mode
+  pub guards : (f : ℕ) → f < count → v.guard f ≡ (at_frame p f).guard
+  pub words : (f : ℕ) → f < count → v.word f ≡ plan_word p f
+  pub close : (x : Layer) → AreWordsNear v p frames count x
 
--- the same for partial reception, which asks it of layer A alone, and that layer A has a segment by itself
-pub record IsNearPartial (mode : Mode) (p : Schedule) (frames : FramePackets) (count : ℕ) (stream : List ℕ) : Type 0 where
-  pub whole : length stream ≡ count * frame_size mode
-  pub words : (f : ℕ) → f < count → stream_word mode stream f ≡ plan_word p f
-  pub close : AreWordsNear mode p frames count stream A
+-- the same for partial reception, which asks it of layer A alone, and that layer A has a segment by itself; the guard interval is nothing to it
+pub record IsNearPartial (v : View) (p : Schedule) (frames : FramePackets) (count : ℕ) : Type 0 where
+  pub whole : v.size ≡ v.starts count
+  pub modes : (f : ℕ) → f < count → v.mode f ≡ (at_frame p f).mode
+  pub words : (f : ℕ) → f < count → v.word f ≡ plan_word p f
+  pub close : AreWordsNear v p frames count A
   pub partial : (f : ℕ) → f < count → (at_frame p f).setting.partial ≡ true

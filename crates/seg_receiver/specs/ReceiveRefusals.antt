@@ -1,7 +1,6 @@
 -- Which frames of a stream of cells a receiver refuses, and why.
-use Rattle.std.specs.Prelude.{ℕ, zero, suc, ◌+◌, ◌-◌, ◌*◌, Bool, false, not, ◌&&◌, ◌==◌, nat_lt, Option, Some, None, Result, Ok, Err, List, [], ◌∷◌, length, if◌then◌else◌}
+use Rattle.std.specs.Prelude.{ℕ, zero, suc, ◌+◌, ◌-◌, Bool, false, not, ◌&&◌, ◌==◌, nat_lt, Option, Some, None, Result, Ok, Err, List, [], ◌∷◌, if◌then◌else◌}
 use Rattle.std.specs.Int.{from_bool}
-use Rattle.isdbt_base.specs.declared.kinds.Mode.{Mode}
 use Rattle.isdbt_base.specs.Bits.{bits_number}
 use Rattle.isdbt_base.specs.Parameters.{Parameters}
 use Rattle.isdbt_base.specs.Outcome.{first_some}
@@ -11,14 +10,13 @@ use Rattle.tmcc_word.specs.declared.fault.TmccFault.TheVariants as words
 use Rattle.tmcc_word.specs.Fields.{TmccFields}
 use Rattle.tmcc_word.specs.Words.{setting_field}
 use Rattle.tmcc_word.specs.Reading.{read, ok_part}
-use Rattle.coder_core.specs.SentCells.{frame_size}
 use Rattle.seg_receiver.specs.declared.fault.ReceiveFault.{ReceiveFault}
 use Rattle.seg_receiver.specs.declared.fault.ReceiveFault.TheVariants.{Truncated, BadTmcc, Unannounced, NotPartial, TooLong}
-use Rattle.seg_receiver.specs.CellStream.{stream_word}
+use Rattle.seg_receiver.specs.CellStream.{View}
 
 -- whether frame f is there: where the stream has a byte of it
-abbrev pub receive_is_there : Mode → List ℕ → ℕ → Bool
-receive_is_there mode stream f = nat_lt (f * frame_size mode) (length stream)
+abbrev pub receive_is_there : View → ℕ → Bool
+receive_is_there v f = nat_lt (v.starts f) v.size
 
 -- two settings are the same where a word has the same bits for both
 abbrev pub same_setting : Parameters → Parameters → Bool
@@ -50,15 +48,15 @@ word_refusal f partial before (Err reason) = Some (BadTmcc f reason)
 word_refusal f partial before (Ok said) = first_some (behind_refusal f before said ∷ part_refusal f partial said.0.now ∷ [])
 
 -- what the word of the frame before frame f says, if there is such a frame and its word is read
-abbrev pub said_before : Mode → List ℕ → ℕ → Option (TmccFields × Bool)
-said_before mode stream zero = None
-said_before mode stream (suc f) = ok_part (read (stream_word mode stream f))
+abbrev pub said_before : View → ℕ → Option (TmccFields × Bool)
+said_before v zero = None
+said_before v (suc f) = ok_part (read (v.word f))
 
 -- why frame f is refused, in full or with partial reception, with a limit on frames: it stands at the limit, it is unfinished, or its word is refused
-unfoldable pub receive_refusal : Mode → Bool → List ℕ → ℕ → ℕ → Option ReceiveFault
-receive_refusal mode partial stream limit f =
-    if receive_is_there mode stream f
+unfoldable pub receive_refusal : View → Bool → ℕ → ℕ → Option ReceiveFault
+receive_refusal v partial limit f =
+    if receive_is_there v f
     then first_some ((if f == limit then Some TooLong else None)
-    ∷ (if nat_lt (length stream) ((f + 1) * frame_size mode) then Some (Truncated seats.In (length stream - f * frame_size mode)) else None)
-    ∷ word_refusal f partial (said_before mode stream f) (read (stream_word mode stream f)) ∷ [])
+    ∷ (if nat_lt v.size (v.starts (f + 1)) then Some (Truncated seats.In (v.size - v.starts f)) else None)
+    ∷ word_refusal f partial (said_before v f) (read (v.word f)) ∷ [])
     else None

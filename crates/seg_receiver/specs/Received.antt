@@ -18,7 +18,7 @@ use Rattle.tmcc_word.specs.declared.fault.TmccFault.{TmccFault}
 use Rattle.tmcc_word.specs.Fields.{TmccFields}
 use Rattle.tmcc_word.specs.Reading.{read}
 use Rattle.layer_chain.specs.OuterWords.{given_out}
-use Rattle.seg_receiver.specs.CellStream.{FrameCells, stream_word, stream_cell}
+use Rattle.seg_receiver.specs.CellStream.{FrameCells, segment_cells, View}
 
 -- the countdown that a word says; a word that is refused says none, as where no switch is near
 abbrev pub countdown_read : Result (TmccFields × Bool) TmccFault → ℕ
@@ -45,8 +45,8 @@ word_packet mode cell start f x j (Err e) = null_packet
 word_packet mode cell start f x j (Ok i) = setting_packet mode cell start f i.0.now x j (layer_of i.0.now x)
 
 -- packet j of a layer in output frame f
-unfoldable pub received_packets : Mode → (ℕ → List Bool) → FrameCells → FramePackets
-received_packets mode words cell f x j = word_packet mode cell (epoch_start words f) f x j (read (words f))
+unfoldable pub received_packets : View → FramePackets
+received_packets v f x j = word_packet (v.mode f) v.cell (epoch_start v.word f) f x j (read (v.word f))
 
 -- what a frame's packets bear, by its word and its epoch
 abbrev pub tag_read : TmccFields × Bool → ℕ → ℕ → Tag
@@ -58,12 +58,12 @@ word_frame mode guard start f packet (Err e) = []
 word_frame mode guard start f packet (Ok i) = ordered_frame mode guard i.0.now (tag_read i start f) packet
 
 -- output frame f
-unfoldable pub received_frame : Mode → Guard → (ℕ → List Bool) → FrameCells → ℕ → List ℕ
-received_frame mode guard words cell f = word_frame mode guard (epoch_start words f) f (received_packets mode words cell f) (read (words f))
+unfoldable pub received_frame : View → ℕ → List ℕ
+received_frame v f = word_frame (v.mode f) (v.guard f) (epoch_start v.word f) f (received_packets v f) (read (v.word f))
 
--- what a receiver writes for the first so many frames of a stream
-abbrev pub received : Mode → Guard → List ℕ → ℕ → List ℕ
-received mode guard stream count = product (received_frame mode guard (stream_word mode stream) (stream_cell mode stream)) count
+-- what a receiver writes for the first so many frames of a view
+abbrev pub received : View → ℕ → List ℕ
+received v count = product (received_frame v) count
 
 -- ---- partial reception
 
@@ -79,9 +79,10 @@ abbrev pub word_partial : Mode → (ℕ → ℕ → ℕ → Cell) → ℕ → �
 word_partial mode cell start f (Err e) = []
 word_partial mode cell start f (Ok i) = partial_packets mode i.0.now.a cell start (f - start)
 
--- layer A's packets in output frame f of partial reception, from the words and the cells of segment 0 alone
-unfoldable pub partial_frame : Mode → (ℕ → List Bool) → (ℕ → ℕ → ℕ → Cell) → ℕ → List ℕ
-partial_frame mode words cell f = word_partial mode cell (epoch_start words f) f (read (words f))
+-- layer A's packets in output frame f of partial reception, from the words, the modes and the cells of segment 0 alone
+unfoldable pub partial_frame : View → ℕ → List ℕ
+partial_frame v f = word_partial (v.mode f) (segment_cells v.cell) (epoch_start v.word f) f (read (v.word f))
 
-abbrev pub received_partial : Mode → (ℕ → List Bool) → (ℕ → ℕ → ℕ → Cell) → ℕ → List ℕ
-received_partial mode words cell count = product (partial_frame mode words cell) count
+-- what partial reception writes for the first so many frames of a view
+abbrev pub received_partial : View → ℕ → List ℕ
+received_partial v count = product (partial_frame v) count

@@ -1,6 +1,8 @@
 //! Laws of the commands one after another: `code` of what `remux` writes, and what is received of it.
 
 ghost use Rattle.std.specs.Prelude.{◌≡◌, ℕ, ◌+◌, ◌-◌, ◌<◌, ◌≤◌, Some, None, List};
+ghost use Rattle.isdbt_base.specs.declared.kinds.Mode.{Mode};
+ghost use Rattle.isdbt_base.specs.declared.kinds.Guard.{Guard};
 ghost use Rattle.isdbt_base.specs.declared.kinds.Layer.{Layer};
 ghost use Rattle.isdbt_base.specs.LayerParameters.{LayerParameters};
 ghost use Rattle.isdbt_base.specs.Parameters.{layer_of};
@@ -16,11 +18,10 @@ ghost use Rattle.remux_core.specs.Parts.{IsGood};
 ghost use Rattle.coder_core.specs.InputFrames.{first_head, frame_at, input_frames};
 ghost use Rattle.coder_core.specs.SentCells.{frame_cells};
 ghost use Rattle.coder_core.specs.CodeRefusals.{code_refusal, is_there, coded_frame};
+ghost use Rattle.seg_receiver.specs.CellStream.{first_version};
 ghost use Rattle.seg_receiver.specs.Received.{received};
-ghost use Rattle.seg_receiver.specs.Delivered.{HasMode, delivered, ArePackets, frame_delay, IsDelivered};
+ghost use Rattle.seg_receiver.specs.Delivered.{SendsIn, delivered, ArePackets, frame_delay, IsDelivered};
 ghost use Rattle.seg_receiver.specs.Composed.{broadcast_stream, HaveSize};
-
-use isdbt_base::{Guard, Mode};
 
 /// What `code` finds in the broadcast packets of a plan's frames, with switches or without, is what was multiplexed: the
 /// first head at the first packet, the bytes of each frame, and each packet of each layer.
@@ -38,9 +39,9 @@ pub fn composed_law()
 {}
 
 /// And they are received as the multiplexed packets, each put off by its layer's delay.
-pub fn headline_law(mode: Mode, guard: Guard)
-    ensures { (p : Schedule) (frames : FramePackets) (count : ℕ) → IsPlan p → HasMode mode guard p → ArePackets p frames count
-        → received mode guard (product (coded_frame p (product (broadcast p frames) count)) count) count ≡ delivered p frames count }
+pub fn headline_law()
+    ensures { (mode : Mode) (guard : Guard) (p : Schedule) (frames : FramePackets) (count : ℕ) → IsPlan p → SendsIn mode guard p count → ArePackets p frames count
+        → received (first_version mode guard (product (coded_frame p (product (broadcast p frames) count)) count)) count ≡ delivered p frames count }
 {}
 
 /// The packets of the multiplex of inputs of whole packets with their sync bytes are packets of bytes, over switches too.
@@ -51,9 +52,9 @@ pub fn multiplexed_law()
 
 /// So what `remux` writes of such inputs, coded by `code`, is received as the multiplex of them, each layer's packets put off
 /// by its delay, for any number of frames.
-pub fn chain_law(mode: Mode, guard: Guard)
-    ensures { (p : Schedule) (input : Layer → List ℕ) (count : ℕ) → IsPlan p → HasMode mode guard p → ((x : Layer) → IsGood (input x)) → ((x : Layer) → IsBytes (input x))
-        → received mode guard (product (coded_frame p (product (written_frame p input) count)) count) count ≡ delivered p (multiplexed p input) count }
+pub fn chain_law()
+    ensures { (mode : Mode) (guard : Guard) (p : Schedule) (input : Layer → List ℕ) (count : ℕ) → IsPlan p → SendsIn mode guard p count → ((x : Layer) → IsGood (input x)) → ((x : Layer) → IsBytes (input x))
+        → received (first_version mode guard (product (coded_frame p (product (written_frame p input) count)) count)) count ≡ delivered p (multiplexed p input) count }
 {}
 
 /// And `code` refuses no frame of what `remux` writes: of a plan's frames of packets, as many as its limit allows, it finds all

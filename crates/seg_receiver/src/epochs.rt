@@ -1,14 +1,16 @@
 //! The frames of an epoch, with the receiver that is opened for it.
 
-ghost use Rattle.std.specs.Prelude.{◌≡◌, ℕ, List, ◌+◌, ◌*◌, ◌≤◌, ◌<◌, Bool, true, length};
+ghost use Rattle.std.specs.Prelude.{◌≡◌, ℕ, List, ◌+◌, ◌*◌, ◌≤◌, ◌<◌, Bool, true, false, length};
 ghost use Rattle.std.specs.declared.option.Option.{Option};
 ghost use Rattle.isdbt_base.specs.Numbers.{carriers, slots_per_frame};
 ghost use Rattle.edge_io.specs.declared.shelf.Seat.TheVariants as seats;
+ghost use Rattle.edge_io.specs.FrameAnswers.{AnswerCause, AnswerRoom};
 ghost use Rattle.tmcc_word.specs.Fields.{TmccFields};
 ghost use Rattle.coder_core.specs.SentCells.{frame_size};
-ghost use Rattle.seg_receiver.specs.CellStream.{stream_cell};
+ghost use Rattle.seg_receiver.specs.CellStream.{stream_cell, first_version};
 ghost use Rattle.seg_receiver.specs.Receiver.{mode_of, guard_of, setting_of, symbols_of, StandsFor};
-ghost use Rattle.seg_receiver.specs.EpochAnswers.{Taken, AtEpoch, InEpoch, EpochAnswer, EpochCause, EpochRoom, EndsPast};
+ghost use Rattle.seg_receiver.specs.ReceiveAnswers.{receive_kind};
+ghost use Rattle.seg_receiver.specs.EpochAnswers.{Taken, AtEpoch, InEpoch, EpochAnswer, EndsPast};
 
 use crate::fault::ReceiveFault;
 use crate::feeding::feed_held;
@@ -54,11 +56,11 @@ fn receive_further<H: Shelf, K: Sink>(
     ensures still_open { H.is_open shelf.new ≡ H.is_open shelf.old }
     ensures past { (f : ℕ) → f < next → EndsPast f limit result }
     ensures answer { (stream : List ℕ) (start h : ℕ) (first : Option (List ℕ)) → start + h ≡ next → 0 < h → StandsFor receiver.old (stream_cell mode stream) start h
-        → InEpoch mode (guard_of receiver.old) stream limit start next said.now (H.left shelf.old seats.In) first (K.written sink.old)
-        → EpochAnswer mode (guard_of receiver.old) stream limit first (K.written sink.new) (H.left shelf.new seats.In) result }
-    ensures cause { EpochCause (H.faults shelf.old) (H.faults shelf.new) (K.faults sink.old) (K.faults sink.new) result }
+        → InEpoch (first_version mode (guard_of receiver.old) stream) false stream limit start next said.now (H.left shelf.old seats.In) first (K.written sink.old)
+        → EpochAnswer (first_version mode (guard_of receiver.old) stream) false stream limit first (K.written sink.new) (H.left shelf.new seats.In) result }
+    ensures cause { AnswerCause receive_kind (λ seat. seat ≡ seats.In) (H.faults shelf.old) (H.faults shelf.new) (K.faults sink.old) (K.faults sink.new) result }
     ensures sink_room { K.room sink.new ≡ K.room sink.old }
-    ensures reached { EpochRoom (K.room sink.old) (K.written sink.new) result }
+    ensures reached { AnswerRoom receive_kind (K.room sink.old) (K.written sink.new) result }
 {
     let mut last = *said;
     for number in next..limit {
@@ -111,12 +113,12 @@ fn receive_held<H: Shelf, K: Sink>(
     requires is_open { H.is_open shelf.old seats.In ≡ true }
     ensures still_open { H.is_open shelf.new ≡ H.is_open shelf.old }
     ensures past { EndsPast number limit result }
-    ensures answer { (stream : List ℕ) (last : Option (TmccFields × Bool)) (known first : Option (List ℕ)) → AtEpoch mode guard stream limit number last known first (K.written sink.old)
-        → Taken mode stream limit number last said.now frame.old (H.left shelf.old seats.In)
-        → EpochAnswer mode guard stream limit first (K.written sink.new) (H.left shelf.new seats.In) result }
-    ensures cause { EpochCause (H.faults shelf.old) (H.faults shelf.new) (K.faults sink.old) (K.faults sink.new) result }
+    ensures answer { (stream : List ℕ) (last : Option (TmccFields × Bool)) (known first : Option (List ℕ)) → AtEpoch (first_version mode guard stream) false stream limit number last known first (K.written sink.old)
+        → Taken (first_version mode guard stream) false stream limit number last said.now frame.old (H.left shelf.old seats.In)
+        → EpochAnswer (first_version mode guard stream) false stream limit first (K.written sink.new) (H.left shelf.new seats.In) result }
+    ensures cause { AnswerCause receive_kind (λ seat. seat ≡ seats.In) (H.faults shelf.old) (H.faults shelf.new) (K.faults sink.old) (K.faults sink.new) result }
     ensures sink_room { K.room sink.new ≡ K.room sink.old }
-    ensures reached { EpochRoom (K.room sink.old) (K.written sink.new) result }
+    ensures reached { AnswerRoom receive_kind (K.room sink.old) (K.written sink.new) result }
 {
     let info = said.0;
     let Ok(mut receiver) = Receiver::open(alloc, &info.now, mode, guard) else {
@@ -163,11 +165,11 @@ pub fn receive_epoch<H: Shelf, K: Sink>(
     requires is_open { H.is_open shelf.old seats.In ≡ true }
     ensures still_open { H.is_open shelf.new ≡ H.is_open shelf.old }
     ensures past { EndsPast number limit result }
-    ensures answer { (stream : List ℕ) (first : Option (List ℕ)) → AtEpoch mode guard stream limit number before.now (H.left shelf.old seats.In) first (K.written sink.old)
-        → EpochAnswer mode guard stream limit first (K.written sink.new) (H.left shelf.new seats.In) result }
-    ensures cause { EpochCause (H.faults shelf.old) (H.faults shelf.new) (K.faults sink.old) (K.faults sink.new) result }
+    ensures answer { (stream : List ℕ) (first : Option (List ℕ)) → AtEpoch (first_version mode guard stream) false stream limit number before.now (H.left shelf.old seats.In) first (K.written sink.old)
+        → EpochAnswer (first_version mode guard stream) false stream limit first (K.written sink.new) (H.left shelf.new seats.In) result }
+    ensures cause { AnswerCause receive_kind (λ seat. seat ≡ seats.In) (H.faults shelf.old) (H.faults shelf.new) (K.faults sink.old) (K.faults sink.new) result }
     ensures sink_room { K.room sink.new ≡ K.room sink.old }
-    ensures reached { EpochRoom (K.room sink.old) (K.written sink.new) result }
+    ensures reached { AnswerRoom receive_kind (K.room sink.old) (K.written sink.new) result }
 {
     let said = match read_first(number, limit, before, mode, frame, shelf) {
         Ok(Some(said)) => said,

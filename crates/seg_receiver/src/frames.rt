@@ -1,17 +1,18 @@
 //! The frames of a stream of cells, one after another: read, checked and written.
 
-ghost use Rattle.std.specs.Prelude.{◌≡◌, ℕ, List, ◌+◌, ◌*◌, ◌≤◌, ◌<◌, Bool, Some, None, true, length, take, OnOk, OnErr, IfOk, IfSome};
+ghost use Rattle.std.specs.Prelude.{◌≡◌, ℕ, List, ◌+◌, ◌*◌, ◌≤◌, ◌<◌, Bool, Some, None, true, false, length, take, OnOk, OnErr, IfOk, IfSome};
 ghost use Rattle.std.specs.declared.option.Option.{Option};
 ghost use Rattle.isdbt_base.specs.declared.kinds.Guard.{Guard};
 ghost use Rattle.isdbt_base.specs.Numbers.{carriers, slots_per_frame};
 ghost use Rattle.edge_io.specs.declared.shelf.Seat.TheVariants as seats;
 ghost use Rattle.edge_io.specs.Known.{append_known, ReachesRoom};
 ghost use Rattle.edge_io.specs.Causes.{HasCause};
+ghost use Rattle.edge_io.specs.FrameAnswers.{LoneAnswer};
 ghost use Rattle.coder_core.specs.SentCells.{frame_size};
 ghost use Rattle.tmcc_word.specs.Fields.{TmccFields};
-ghost use Rattle.seg_receiver.specs.CellStream.{FrameCells, stream_cell};
+ghost use Rattle.seg_receiver.specs.CellStream.{FrameCells, stream_cell, first_version};
 ghost use Rattle.seg_receiver.specs.Receiver.{mode_of, guard_of, setting_of, symbols_of, StandsFor};
-ghost use Rattle.seg_receiver.specs.ReceiveAnswers.{ReceiveAnswer};
+ghost use Rattle.seg_receiver.specs.ReceiveAnswers.{receive_kind, receive_command};
 ghost use Rattle.seg_receiver.specs.EpochAnswers.{epoch_frame, FrameCheck, Progress, TakeAnswer, TakeCause};
 
 use crate::check_word::check_word;
@@ -35,7 +36,7 @@ fn check_frame(
 ) -> Result<Option<(TmccInfo, bool)>, ReceiveFault>
     requires size { length frame.now ≡ frame_size mode }
     requires most { count ≤ length frame.now }
-    ensures { FrameCheck mode number before.now frame.now count result }
+    ensures { FrameCheck mode false number before.now frame.now count result }
 {
     if count == 0 {
         return Ok(None);
@@ -65,8 +66,8 @@ pub fn read_first<H: Shelf>(
     requires size { length frame.old ≡ frame_size mode }
     requires is_open { H.is_open shelf.old seats.In ≡ true }
     ensures still_open { H.is_open shelf.new ≡ H.is_open shelf.old }
-    ensures answer { (guard : Guard) (stream : List ℕ) (first now : Option (List ℕ)) → Progress mode guard stream limit number before.now (H.left shelf.old seats.In) first now
-        → TakeAnswer mode guard stream limit number before.now frame.new first now (H.left shelf.new seats.In) result }
+    ensures answer { (guard : Guard) (stream : List ℕ) (first now : Option (List ℕ)) → Progress (first_version mode guard stream) false stream limit number before.now (H.left shelf.old seats.In) first now
+        → TakeAnswer (first_version mode guard stream) false stream limit number before.now frame.new first now (H.left shelf.new seats.In) result }
     ensures cause { TakeCause (H.faults shelf.old) (H.faults shelf.new) result }
 {
     let count = match fill(shelf, Seat::In, frame) {
@@ -94,9 +95,9 @@ pub fn read_further<H: Shelf>(
     requires room { length cells.old ≡ 13 * carriers mode }
     requires is_open { H.is_open shelf.old seats.In ≡ true }
     ensures still_open { H.is_open shelf.new ≡ H.is_open shelf.old }
-    ensures answer { (guard : Guard) (stream : List ℕ) (first now : Option (List ℕ)) → Progress mode guard stream limit number before.now (H.left shelf.old seats.In) first now
-        → TakeAnswer mode guard stream limit number before.now frame.new first now (H.left shelf.new seats.In) result }
-    ensures state { IfOk result (λ o. IfSome o (λ said. (guard : Guard) (stream : List ℕ) (first now : Option (List ℕ)) → Progress mode guard stream limit number before.now (H.left shelf.old seats.In) first now
+    ensures answer { (guard : Guard) (stream : List ℕ) (first now : Option (List ℕ)) → Progress (first_version mode guard stream) false stream limit number before.now (H.left shelf.old seats.In) first now
+        → TakeAnswer (first_version mode guard stream) false stream limit number before.now frame.new first now (H.left shelf.new seats.In) result }
+    ensures state { IfOk result (λ o. IfSome o (λ said. (guard : Guard) (stream : List ℕ) (first now : Option (List ℕ)) → Progress (first_version mode guard stream) false stream limit number before.now (H.left shelf.old seats.In) first now
         → (start h : ℕ) → start + h ≡ number → StandsFor receiver.old (stream_cell mode stream) start h → StandsFor receiver.new (stream_cell mode stream) start h)) }
     ensures symbols { IfOk result (λ o. IfSome o (λ said. symbols_of receiver.new ≡ 204)) }
     ensures mode_kept { mode_of receiver.new ≡ mode_of receiver.old }
@@ -165,8 +166,8 @@ pub fn end_at_limit<H: Shelf>(
     requires size { length frame.old ≡ frame_size mode }
     requires is_open { H.is_open shelf.old seats.In ≡ true }
     ensures still_open { H.is_open shelf.new ≡ H.is_open shelf.old }
-    ensures answer { (guard : Guard) (stream : List ℕ) (last : Option (TmccFields × Bool)) (first now : Option (List ℕ)) → Progress mode guard stream limit limit last (H.left shelf.old seats.In) first now
-        → ReceiveAnswer mode guard stream limit first now (H.left shelf.new seats.In) result }
+    ensures answer { (guard : Guard) (stream : List ℕ) (last : Option (TmccFields × Bool)) (first now : Option (List ℕ)) → Progress (first_version mode guard stream) false stream limit limit last (H.left shelf.old seats.In) first now
+        → LoneAnswer receive_kind (receive_command (first_version mode guard stream) false stream limit) first now (H.left shelf.new seats.In) result }
     ensures cause { TakeCause (H.faults shelf.old) (H.faults shelf.new) result }
 {
     match fill(shelf, Seat::In, &mut frame[..1]) {

@@ -34,7 +34,7 @@ pub use compose_laws::{
     accepted_law, chain_law, composed_law, found_law, headline_law, input_law, multiplexed_law,
 };
 pub use fault::ReceiveFault;
-pub use laws::{near_law, partial_law, prefix_law, received_law};
+pub use laws::{near_law, partial_law, prefix_law, received_law, row_law};
 pub use outcome_laws::{near_outcome_law, same_setting_law};
 pub use receiver::Receiver;
 pub use receiving::receive;

@@ -1,22 +1,21 @@
 //! Laws of which frames of a stream of cells are refused.
 
-ghost use Rattle.std.specs.Prelude.{◌≡◌, ℕ, ◌≤◌, true, false, None, List};
+ghost use Rattle.std.specs.Prelude.{◌≡◌, ℕ, ◌≤◌, true, false, None};
 ghost use Rattle.isdbt_base.specs.Parameters.{Parameters, IsAccepted};
 ghost use Rattle.isdbt_base.specs.Plans.{Schedule, IsPlan};
 ghost use Rattle.isdbt_base.specs.Frames.{FramePackets};
 ghost use Rattle.isdbt_base.specs.Outcome.{IsOutcome};
-ghost use Rattle.seg_receiver.specs.Delivered.{KeepsMode, IsNear, IsNearPartial};
+ghost use Rattle.seg_receiver.specs.CellStream.{View, AreInRow};
+ghost use Rattle.seg_receiver.specs.Delivered.{IsNear, IsNearPartial};
 ghost use Rattle.seg_receiver.specs.ReceiveRefusals.{receive_is_there, same_setting, receive_refusal};
 
-use isdbt_base::Mode;
-
-/// No frame of a stream that is near the cells of a plan is refused, with partial reception neither: of as many as the limit
-/// allows all are there and passed, and none follows.
-pub fn near_outcome_law(mode: Mode)
-    ensures whole { (p : Schedule) (frames : FramePackets) (count limit : ℕ) (stream : List ℕ) → IsPlan p → KeepsMode mode p → IsNear mode p frames count stream → count ≤ limit
-        → IsOutcome (receive_refusal mode false stream limit) (receive_is_there mode stream) count None }
-    ensures partial { (p : Schedule) (frames : FramePackets) (count limit : ℕ) (stream : List ℕ) → IsPlan p → KeepsMode mode p → IsNearPartial mode p frames count stream → count ≤ limit
-        → IsOutcome (receive_refusal mode true stream limit) (receive_is_there mode stream) count None }
+/// No frame of a view that is near the cells of a plan, and whose frames stand in a row, is refused, with partial reception
+/// neither: of as many as the limit allows all are there and passed, and none follows.
+pub fn near_outcome_law()
+    ensures whole { (v : View) (p : Schedule) (frames : FramePackets) (count limit : ℕ) → IsPlan p → AreInRow v count → IsNear v p frames count → count ≤ limit
+        → IsOutcome (receive_refusal v false limit) (receive_is_there v) count None }
+    ensures partial { (v : View) (p : Schedule) (frames : FramePackets) (count limit : ℕ) → IsPlan p → AreInRow v count → IsNearPartial v p frames count → count ≤ limit
+        → IsOutcome (receive_refusal v true limit) (receive_is_there v) count None }
 {}
 
 /// Two accepted settings are the same to a receiver just where they are equal.

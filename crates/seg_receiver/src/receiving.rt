@@ -1,10 +1,12 @@
 //! Cells into broadcast packets.
 
-ghost use Rattle.std.specs.Prelude.{◌≡◌, ℕ, List, ◌*◌, ◌≤◌, ◌<◌, Some, true, length, vec_len, IfOk};
+ghost use Rattle.std.specs.Prelude.{◌≡◌, ℕ, List, ◌*◌, ◌≤◌, ◌<◌, Some, true, false, length, vec_len, IfOk};
 ghost use Rattle.isdbt_base.specs.Numbers.{carriers, slots_per_frame};
 ghost use Rattle.edge_io.specs.declared.shelf.Seat.TheVariants as seats;
+ghost use Rattle.edge_io.specs.FrameAnswers.{LoneAnswer, AnswerCause, AnswerRoom};
 ghost use Rattle.coder_core.specs.SentCells.{frame_size};
-ghost use Rattle.seg_receiver.specs.ReceiveAnswers.{ReceiveAnswer, ReceiveCause, RoomAnswer};
+ghost use Rattle.seg_receiver.specs.CellStream.{first_version};
+ghost use Rattle.seg_receiver.specs.ReceiveAnswers.{receive_kind, receive_command};
 
 use crate::epochs::{EpochEnd, receive_epoch};
 use crate::fault::ReceiveFault;
@@ -50,11 +52,11 @@ fn receive_epochs<H: Shelf, K: Sink>(
     requires room_out { length out.old ≡ 204 * slots_per_frame mode guard }
     requires is_open { H.is_open shelf.old seats.In ≡ true }
     ensures answer { (stream : List ℕ) → H.left shelf.old seats.In ≡ Some stream
-        → ReceiveAnswer mode guard stream limit (K.written sink.old) (K.written sink.new) (H.left shelf.new seats.In) result }
+        → LoneAnswer receive_kind (receive_command (first_version mode guard stream) false stream limit) (K.written sink.old) (K.written sink.new) (H.left shelf.new seats.In) result }
     ensures still_open { H.is_open shelf.new ≡ H.is_open shelf.old }
-    ensures cause { ReceiveCause (H.faults shelf.old) (H.faults shelf.new) (K.faults sink.old) (K.faults sink.new) result }
+    ensures cause { AnswerCause receive_kind (λ seat. seat ≡ seats.In) (H.faults shelf.old) (H.faults shelf.new) (K.faults sink.old) (K.faults sink.new) result }
     ensures room { K.room sink.new ≡ K.room sink.old }
-    ensures reached { RoomAnswer (K.room sink.old) (K.written sink.new) result }
+    ensures reached { AnswerRoom receive_kind (K.room sink.old) (K.written sink.new) result }
 {
     let mut before = None;
     let mut number = 0;
@@ -94,11 +96,11 @@ fn receive_within<H: Shelf, K: Sink>(
     requires room_out { length out.old ≡ 204 * slots_per_frame mode guard }
     requires is_open { H.is_open shelf.old seats.In ≡ true }
     ensures answer { (stream : List ℕ) → H.left shelf.old seats.In ≡ Some stream
-        → ReceiveAnswer mode guard stream limit (K.written sink.old) (K.written sink.new) (H.left shelf.new seats.In) result }
+        → LoneAnswer receive_kind (receive_command (first_version mode guard stream) false stream limit) (K.written sink.old) (K.written sink.new) (H.left shelf.new seats.In) result }
     ensures still_open { H.is_open shelf.new ≡ H.is_open shelf.old }
-    ensures cause { ReceiveCause (H.faults shelf.old) (H.faults shelf.new) (K.faults sink.old) (K.faults sink.new) result }
+    ensures cause { AnswerCause receive_kind (λ seat. seat ≡ seats.In) (H.faults shelf.old) (H.faults shelf.new) (K.faults sink.old) (K.faults sink.new) result }
     ensures room { K.room sink.new ≡ K.room sink.old }
-    ensures reached { RoomAnswer (K.room sink.old) (K.written sink.new) result }
+    ensures reached { AnswerRoom receive_kind (K.room sink.old) (K.written sink.new) result }
 {
     let Ok(mut cells) = room_for(alloc, 13 * carriers(mode) as usize) else {
         return Err(ReceiveFault::NoMemory);
@@ -128,13 +130,13 @@ pub fn receive<H: Shelf, K: Sink>(
     requires few { limit ≤ 16777216 }
     requires is_open { H.is_open shelf.old seats.In ≡ true }
     ensures answer { (stream : List ℕ) → H.left shelf.old seats.In ≡ Some stream
-        → ReceiveAnswer mode guard stream limit (K.written sink.old) (K.written sink.new) (H.left shelf.new seats.In) result }
+        → LoneAnswer receive_kind (receive_command (first_version mode guard stream) false stream limit) (K.written sink.old) (K.written sink.new) (H.left shelf.new seats.In) result }
     ensures still_open { H.is_open shelf.new ≡ H.is_open shelf.old }
-    ensures cause { ReceiveCause (H.faults shelf.old) (H.faults shelf.new) (K.faults sink.old) (K.faults sink.new) result }
+    ensures cause { AnswerCause receive_kind (λ seat. seat ≡ seats.In) (H.faults shelf.old) (H.faults shelf.new) (K.faults sink.old) (K.faults sink.new) result }
 
     // The sink's room stays, and a write fails only where what was written reaches it.
     ensures room { K.room sink.new ≡ K.room sink.old }
-    ensures reached { RoomAnswer (K.room sink.old) (K.written sink.new) result }
+    ensures reached { AnswerRoom receive_kind (K.room sink.old) (K.written sink.new) result }
 {
     let Ok(mut frame) = zeros(alloc, 204 * symbol_size(mode)) else {
         return Err(ReceiveFault::NoMemory);

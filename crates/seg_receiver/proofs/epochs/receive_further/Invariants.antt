@@ -1,7 +1,7 @@
-use Rattle.std.proofs.Common.{◌≡◌, ◌+◌, ◌<◌, ℕ, List, true}
+use Rattle.std.proofs.Common.{◌≡◌, ◌+◌, ◌<◌, ℕ, List, true, false}
 use Rattle.std.specs.declared.option.Option.{Option}
 use Rattle.edge_io.specs.declared.shelf.Seat.TheVariants as seats
-use Rattle.seg_receiver.specs.CellStream.{stream_cell}
+use Rattle.seg_receiver.specs.CellStream.{stream_cell, first_version}
 use Rattle.seg_receiver.specs.Receiver.{mode_of, guard_of, symbols_of, StandsFor}
 use Rattle.seg_receiver.specs.EpochAnswers.{InEpoch}
 use Rattle.seg_receiver.proofs.EpochProgress.{Going}
@@ -18,6 +18,6 @@ invariant-loop-number g l = record {
   sink_kept : g.K.Sink.faults l.sink ≡ g.K.Sink.faults l.initial.sink;
   sink_room : g.K.Sink.room l.sink ≡ g.K.Sink.room l.initial.sink;
   told : (stream : List ℕ) (start h : ℕ) (first : Option (List ℕ)) → start + h ≡ l.next → 0 < h → StandsFor l.initial.receiver (stream_cell l.mode stream) start h
-      → InEpoch l.mode (guard_of l.initial.receiver) stream l.limit start l.next l.said (g.H.Shelf.left l.initial.shelf seats.In) first (g.K.Sink.written l.initial.sink)
-      → Going l.receiver l.mode (guard_of l.initial.receiver) stream l.limit start l.number l.last (g.H.Shelf.left l.shelf seats.In) first (g.K.Sink.written l.sink);
+      → InEpoch (first_version l.mode (guard_of l.initial.receiver) stream) false stream l.limit start l.next l.said (g.H.Shelf.left l.initial.shelf seats.In) first (g.K.Sink.written l.initial.sink)
+      → Going l.receiver (first_version l.mode (guard_of l.initial.receiver) stream) false stream l.limit start l.number l.last (g.H.Shelf.left l.shelf seats.In) first (g.K.Sink.written l.sink);
 }

@@ -1,7 +1,8 @@
-use Rattle.std.proofs.Common.{◌≡◌, refl, ap, ◌∙◌, subst, arith, Ok}
+use Rattle.std.proofs.Common.{◌≡◌, false, refl, ap, ◌∙◌, subst, arith, Ok}
 use Rattle.edge_io.specs.declared.shelf.Seat.TheVariants as seats
 use Rattle.seg_receiver.specs.declared.epochs.EpochEnd.{EpochEnd}
 use Rattle.seg_receiver.specs.declared.epochs.EpochEnd.TheVariants.{Next}
+use Rattle.seg_receiver.specs.CellStream.{first_version}
 use Rattle.seg_receiver.specs.EpochAnswers.{EpochAnswer, EndsPast}
 use Rattle.seg_receiver.proofs.EpochProgress.{at_first, progress-at_limit}
 use Rattle.seg_receiver.proofs.receiving.receive_epochs.Goals as goal
@@ -15,23 +16,23 @@ loop-epoch-init g c = record {
   shelf_kept = refl;
   sink_kept = refl;
   sink_room = refl;
-  told = λ stream told. at_first c.args.mode c.args.guard stream c.args.limit _ _ told;
+  told = λ stream told. at_first c.args.mode c.args.guard false stream c.args.limit _ _ told;
 }
 
 pub returns-then-number-limit-clause-answer : goal.returns-then-number-limit-clause-answer
 returns-then-number-limit-clause-answer g c = λ stream told.
-    c.end_at_limit.ensures.answer c.args.guard stream _ _ _ (progress-at_limit c.args.mode c.args.guard stream c.args.limit c.loop-epoch.number c.loop-epoch.before _ _ _ c.if-number-limit.true (c.loop-epoch.invariant.told stream told))
+    c.end_at_limit.ensures.answer c.args.guard stream _ _ _ (progress-at_limit (first_version c.args.mode c.args.guard stream) false stream c.args.limit c.loop-epoch.number c.loop-epoch.before _ _ _ c.if-number-limit.true (c.loop-epoch.invariant.told stream told))
 
 pub returns-clause-answer : goal.returns-clause-answer
 returns-clause-answer g c = λ stream told.
     let least = c.loop-epoch.invariant.least in
     let most = c.loop-epoch.invariant.most in
     let end : c.loop-epoch.number ≡ c.args.limit = omega (arith, least, most) in
-    c.end_at_limit-2.ensures.answer c.args.guard stream _ _ _ (progress-at_limit c.args.mode c.args.guard stream c.args.limit c.loop-epoch.number c.loop-epoch.before _ _ _ end (c.loop-epoch.invariant.told stream told))
+    c.end_at_limit-2.ensures.answer c.args.guard stream _ _ _ (progress-at_limit (first_version c.args.mode c.args.guard stream) false stream c.args.limit c.loop-epoch.number c.loop-epoch.before _ _ _ end (c.loop-epoch.invariant.told stream told))
 
 pub returns-in-Ok-Input-clause-answer : goal.returns-in-Ok-Input-clause-answer
 returns-in-Ok-Input-clause-answer g c = λ stream told.
-    let P : EpochEnd → Type 0 = λ e. EpochAnswer c.args.mode c.args.guard stream c.args.limit (g.K.Sink.written c.args.sink.now) (g.K.Sink.written c.receive_epoch-end.new.sink) (g.H.Shelf.left c.receive_epoch-end.new.shelf seats.In) (Ok e) in
+    let P : EpochEnd → Type 0 = λ e. EpochAnswer (first_version c.args.mode c.args.guard stream) false stream c.args.limit (g.K.Sink.written c.args.sink.now) (g.K.Sink.written c.receive_epoch-end.new.sink) (g.H.Shelf.left c.receive_epoch-end.new.shelf seats.In) (Ok e) in
     subst P c.in-Ok-Input.field-0-is (c.in-Ok-Input.ensures.answer stream (g.K.Sink.written c.args.sink.now) (c.loop-epoch.invariant.told stream told))
 
 pub loop-epoch-preserved : goal.loop-epoch-preserved
@@ -47,6 +48,6 @@ loop-epoch-preserved g c =
       sink_kept = c.in-Ok-Next.ensures.cause.1 ∙ c.loop-epoch.invariant.sink_kept;
       sink_room = c.in-Ok-Next.ensures.sink_room ∙ c.loop-epoch.invariant.sink_room;
       told = λ stream told. (
-          let P : EpochEnd → Type 0 = λ e. EpochAnswer c.args.mode c.args.guard stream c.args.limit (g.K.Sink.written c.args.sink.now) (g.K.Sink.written c.receive_epoch-end.new.sink) (g.H.Shelf.left c.receive_epoch-end.new.shelf seats.In) (Ok e) in
+          let P : EpochEnd → Type 0 = λ e. EpochAnswer (first_version c.args.mode c.args.guard stream) false stream c.args.limit (g.K.Sink.written c.args.sink.now) (g.K.Sink.written c.receive_epoch-end.new.sink) (g.H.Shelf.left c.receive_epoch-end.new.shelf seats.In) (Ok e) in
           subst P c.in-Ok-Next.field-0-is (c.in-Ok-Next.ensures.answer stream (g.K.Sink.written c.args.sink.now) (c.loop-epoch.invariant.told stream told)));
     }

@@ -1,5 +1,6 @@
-use Rattle.std.proofs.Common.{◌≡◌, ◌≤◌, ℕ, List, true, Some}
+use Rattle.std.proofs.Common.{◌≡◌, ◌≤◌, ℕ, List, true, false, Some}
 use Rattle.edge_io.specs.declared.shelf.Seat.TheVariants as seats
+use Rattle.seg_receiver.specs.CellStream.{first_version}
 use Rattle.seg_receiver.specs.EpochAnswers.{AtEpoch}
 use Rattle.seg_receiver.proofs.receiving.receive_epochs.Given as goal
 
@@ -13,5 +14,5 @@ invariant-loop-epoch g l = record {
   sink_kept : g.K.Sink.faults l.sink ≡ g.K.Sink.faults l.initial.sink;
   sink_room : g.K.Sink.room l.sink ≡ g.K.Sink.room l.initial.sink;
   told : (stream : List ℕ) → g.H.Shelf.left l.initial.shelf seats.In ≡ Some stream
-      → AtEpoch l.mode l.guard stream l.limit l.number l.before (g.H.Shelf.left l.shelf seats.In) (g.K.Sink.written l.initial.sink) (g.K.Sink.written l.sink);
+      → AtEpoch (first_version l.mode l.guard stream) false stream l.limit l.number l.before (g.H.Shelf.left l.shelf seats.In) (g.K.Sink.written l.initial.sink) (g.K.Sink.written l.sink);
 }

@@ -1,0 +1,5 @@
+use Rattle.seg_receiver.proofs.StreamLaws.{in_row}
+use Rattle.seg_receiver.proofs.laws.row_law.Goals as goal
+
+pub returns : goal.returns
+returns c = in_row
