@@ -1,5 +1,5 @@
 -- Which frames of a stream of cells a receiver refuses, and why.
-use Rattle.std.specs.Prelude.{ℕ, zero, suc, ◌+◌, ◌-◌, Bool, false, not, ◌&&◌, ◌==◌, nat_lt, Option, Some, None, Result, Ok, Err, List, [], ◌∷◌, if◌then◌else◌}
+use Rattle.std.specs.Prelude.{ℕ, zero, suc, ◌+◌, ◌-◌, Bool, false, not, ◌&&◌, ◌==◌, nat_lt, Option, Some, None, Result, Ok, Err, [], ◌∷◌, if◌then◌else◌}
 use Rattle.std.specs.Int.{from_bool}
 use Rattle.isdbt_base.specs.Bits.{bits_number}
 use Rattle.isdbt_base.specs.Parameters.{Parameters}
