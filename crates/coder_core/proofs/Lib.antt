@@ -1,3 +1,4 @@
+pub mod BehindEnd
 pub mod CellLists
 pub mod Codable
 pub mod CodeProgress

@@ -34,7 +34,7 @@ packets_before-zero : (p : Schedule) → packets_before p 0 ≡ 0
 unfolding packets_before
 packets_before-zero p = refl
 
-packets_before-suc : (p : Schedule) (f : ℕ) → packets_before p (suc f) ≡ packets_before p f + slots_at p f
+pub packets_before-suc : (p : Schedule) (f : ℕ) → packets_before p (suc f) ≡ packets_before p f + slots_at p f
 unfolding packets_before
 packets_before-suc p f = sum_range-suc (slots_at p) 0 f ∙ ap (λ g. sum_by (slots_at p) (range_with_len 0 f) + slots_at p g) (let e : 0 + f ≡ f = omega arith in e)
 

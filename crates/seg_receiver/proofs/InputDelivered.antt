@@ -11,9 +11,9 @@ use Rattle.isdbt_base.specs.Epochs.{leaves_after}
 use Rattle.isdbt_base.proofs.OptionLaws.{option_cases}
 use Rattle.ts_packet.specs.Packets.{piece}
 use Rattle.coder_core.proofs.PlanEpochs.{SameEpoch, epoch_start-le}
-use Rattle.remux_core.specs.Multiplex.{layer_at, filled, placed_before, multiplexed, packet_count}
+use Rattle.remux_core.specs.Multiplex.{layer_at, filled, placed_before, multiplexed, packet_count, frame_delay}
 use Rattle.remux_core.specs.Answers.{IsPlacedIn}
-use Rattle.seg_receiver.specs.Delivered.{into_epoch, frame_delay, IsDelivered}
+use Rattle.seg_receiver.specs.Delivered.{into_epoch, IsDelivered}
 use Rattle.seg_receiver.proofs.EpochStarts.{at_from-after, at_from-before}
 
 -- a frame that is before the end of another's epoch is in that epoch

@@ -6,7 +6,7 @@ use Rattle.isdbt_base.specs.declared.kinds.Guard.{Guard}
 use Rattle.isdbt_base.specs.declared.kinds.Layer.{Layer}
 use Rattle.isdbt_base.specs.declared.kinds.Layer.TheVariants.{A}
 use Rattle.isdbt_base.specs.LayerParameters.{LayerParameters}
-use Rattle.isdbt_base.specs.Parameters.{layer_of, number_of}
+use Rattle.isdbt_base.specs.Parameters.{layer_of}
 use Rattle.isdbt_base.specs.Numbers.{packets_per_frame, layer_delay, first_segment}
 use Rattle.isdbt_base.specs.Plans.{Schedule, at_frame}
 use Rattle.isdbt_base.specs.Frames.{FramePackets}
@@ -35,10 +35,6 @@ delayed_packet p frames f x j (Some l) =
 
 abbrev pub delivered_packets : Schedule → FramePackets → FramePackets
 delivered_packets p frames f x j = delayed_packet p frames f x j (layer_of (at_frame p f).setting x)
-
--- the delay of a layer in the setting of a frame, and 0 where it isn't used there
-abbrev pub frame_delay : Schedule → ℕ → Layer → ℕ
-frame_delay p f x = number_of (layer_delay (at_frame p f).mode) (layer_of (at_frame p f).setting x)
 
 -- frame f has a packet j of a layer, and delivers these bytes as it
 pub record IsDelivered (p : Schedule) (frames : FramePackets) (x : Layer) (f j : ℕ) (bytes : List ℕ) : Type 0 where

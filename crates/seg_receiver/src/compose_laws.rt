@@ -12,7 +12,7 @@ ghost use Rattle.isdbt_base.specs.Frames.{FramePackets};
 ghost use Rattle.isdbt_base.specs.Outcome.{product, IsOutcome};
 ghost use Rattle.ts_packet.specs.Packets.{IsPacket, piece};
 ghost use Rattle.gf_rs.specs.Codewords.{IsBytes};
-ghost use Rattle.remux_core.specs.Multiplex.{placed_before, multiplexed, packet_count, broadcast, written_frame};
+ghost use Rattle.remux_core.specs.Multiplex.{placed_before, multiplexed, packet_count, frame_delay, broadcast, written_frame};
 ghost use Rattle.remux_core.specs.Answers.{IsPlacedIn};
 ghost use Rattle.remux_core.specs.Parts.{IsGood};
 ghost use Rattle.coder_core.specs.InputFrames.{first_head, frame_at, input_frames};
@@ -20,7 +20,7 @@ ghost use Rattle.coder_core.specs.SentCells.{frame_cells};
 ghost use Rattle.coder_core.specs.CodeRefusals.{code_refusal, is_there, coded_frame};
 ghost use Rattle.seg_receiver.specs.CellStream.{first_version};
 ghost use Rattle.seg_receiver.specs.Received.{received};
-ghost use Rattle.seg_receiver.specs.Delivered.{SendsIn, delivered, ArePackets, frame_delay, IsDelivered};
+ghost use Rattle.seg_receiver.specs.Delivered.{SendsIn, delivered, ArePackets, IsDelivered};
 ghost use Rattle.seg_receiver.specs.Composed.{broadcast_stream, HaveSize};
 
 /// What `code` finds in the broadcast packets of a plan's frames, with switches or without, is what was multiplexed: the

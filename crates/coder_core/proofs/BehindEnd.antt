@@ -1,0 +1,52 @@
+-- No frame behind the end of a stream is refused.
+use Rattle.std.proofs.Common.{◌≡◌, ℕ, zero, suc, ◌+◌, ◌-◌, ◌*◌, ◌≤◌, ◌<◌, Bool, true, false, List, length, refl, ap, sym, ◌∙◌, arith, inl, inr}
+use Rattle.std.specs.Prelude.{Some, None, ◌==◌, if◌then◌else◌}
+use Rattle.std.specs.declared.option.Option.{Option}
+use Rattle.std.proofs.lemmas.Bool.{cases_lt, ne_eqb, ltb-false, le-ltb}
+use Rattle.isdbt_base.specs.Outcome.{first_some, IsOutcome}
+use Rattle.isdbt_base.specs.Plans.{Schedule}
+use Rattle.coder_core.specs.declared.fault.CodeFault.{CodeFault}
+use Rattle.coder_core.specs.InputFrames.{first_head, packets_before, frame_start}
+use Rattle.coder_core.specs.CodeRefusals.{search_refusal, has_byte_of, frame_refusal, refusal_from, code_refusal, there_from, is_there}
+use Rattle.coder_core.proofs.PlainFrames.{packets_before-suc, first_some-one}
+
+packets-rise : (p : Schedule) (f n : ℕ) → packets_before p f ≤ packets_before p (f + n)
+packets-rise p f zero = (let e = ap (packets_before p) (let e' : f ≡ f + 0 = omega arith in e') in omega (arith, e))
+packets-rise p f (suc n) =
+    let more = packets_before-suc p (f + n) in
+    let e = ap (packets_before p) (let e' : suc (f + n) ≡ f + suc n = omega arith in e') in
+    let before = packets-rise p f n in
+    omega (arith, more, e, before)
+
+past : (p : Schedule) (head m f : ℕ) → m ≤ f → frame_start p head m ≤ frame_start p head f
+past p head m f le =
+    let rise = packets-rise p m (f - m) in
+    let e = ap (packets_before p) (let e' : m + (f - m) ≡ f = omega (arith, le) in e') in
+    omega (arith, rise, e)
+
+refusal-gone : (p : Schedule) (input : List ℕ) (limit m f : ℕ) (o : Option ℕ) → m ≤ f → there_from p input m o ≡ false → refusal_from p input limit f o ≡ None
+refusal-gone p input limit m f None le gone = refl
+refusal-gone p input limit m f (Some head) le gone =
+    let end = ltb-false (frame_start p head m) (length input) gone in
+    let rise = past p head m f le in
+    let none : has_byte_of p input head f ≡ false = le-ltb (frame_start p head f) (length input) (omega (arith, end, rise)) in
+    rw none refl
+
+later : (p : Schedule) (input : List ℕ) (limit f : ℕ) → 0 < f → refusal_from p input limit f (first_head input) ≡ None → code_refusal p input limit f ≡ None
+unfolding code_refusal
+later p input limit f some none = rw (ne_eqb f 0 (λ e. omega (arith, e, some)), none) refl
+
+gone : (p : Schedule) (input : List ℕ) (m : ℕ) → is_there p input m ≡ false → there_from p input m (first_head input) ≡ false
+unfolding is_there
+gone p input m none = none
+
+-- where all frames are passed and no other is there, none is refused
+pub free : (p : Schedule) (input : List ℕ) (limit count : ℕ) → IsOutcome (code_refusal p input limit) (is_there p input) count None → (f : ℕ) → code_refusal p input limit f ≡ None
+free p input limit count all f =
+    elim (cases_lt f count) [
+      | inl below ↦ (all.before f below).0
+      | inr ge ↦ elim (cases_lt count f) [
+        | inl less ↦ later p input limit f (omega (arith, less)) (refusal-gone p input limit count f (first_head input) ge (gone p input count (all.done refl)))
+        | inr le ↦ (let e : f ≡ count = omega (arith, ge, le) in ap (code_refusal p input limit) e ∙ all.at)
+      ]
+    ]
