@@ -4,12 +4,13 @@ ghost use Rattle.std.specs.Prelude.{◌≡◌, ◌*◌, ◌≤◌, IfOk, vec_len
 ghost use Rattle.isdbt_base.specs.Numbers.{layer_cells};
 
 use crate::adjusted::Adjusted;
+use crate::bit_deinterleaver::BitDeinterleaver;
 use crate::bit_stage::BitStage;
 use crate::cell_numbers::number_cells;
 use crate::tests::{null_packets, numbered_from};
-use crate::{Held, LayerCoder};
+use crate::{Held, LayerCoder, bit_partner_law};
 use cell_map::Cell;
-use delay_line::Stage;
+use delay_line::{Stage, through};
 use isdbt_base::{DepthCode, LayerSetting, Mode, Modulation, Rate};
 use std::alloc::Global;
 use std::test::Fail;
@@ -176,6 +177,37 @@ fn cells_of_an_independent_program(rt: HostRuntime) -> Result<(), Fail> {
     ];
     for (mode, layer, sums) in rows {
         assert!(rt; three_frames(alloc, &layer, mode)? == sums);
+    }
+    Ok(())
+}
+
+/// A bit of a turn and a path.
+fn bit_of(turn: usize, path: usize) -> bool {
+    turn % 7 == path % 7 || turn % 5 == path % 5
+}
+
+/// What a bit deinterleaver gives at last of so many turns of 64QAM that the interleaver of the same modulation was fed.
+fn last_of_pair(alloc: Global, turns: usize) -> Result<[bool; 6], Fail> {
+    let mut sender = BitStage::open(alloc, Modulation::Qam64)?;
+    let mut receiver = BitDeinterleaver::open(alloc, Modulation::Qam64)?;
+    bit_partner_law(Modulation::Qam64);
+    let mut middle = [false; 6];
+    let mut bits = [false; 6];
+    for turn in 0..turns {
+        for path in 0..6 {
+            bits[path] = bit_of(turn, path);
+        }
+        through(&mut sender, &mut receiver, &mut bits, &mut middle);
+    }
+    Ok(bits)
+}
+
+#[test]
+fn bit_pair(rt: HostRuntime) -> Result<(), Fail> {
+    assert_eq!(rt; last_of_pair(rt.alloc(), 120)?, [false; 6]);
+    let bits = last_of_pair(rt.alloc(), 123)?;
+    for (path, bit) in bits.iter().enumerate() {
+        assert_eq!(rt; *bit, bit_of(2, path), "path {path}");
     }
     Ok(())
 }

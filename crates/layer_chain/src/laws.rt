@@ -2,10 +2,12 @@
 
 ghost use Rattle.std.specs.Prelude.{◌≡◌, ℕ, ◌*◌, ◌<◌, Bool, List};
 ghost use Rattle.isdbt_base.specs.Numbers.{layer_cells, cell_bits, packets_per_frame};
+ghost use Rattle.delay_line.specs.Stages.{ArePartners};
+ghost use Rattle.bit_inter.specs.Layouts.{inter_layout, deinter_layout};
 ghost use Rattle.layer_chain.specs.CodedBits.{layer_coded_bit};
 ghost use Rattle.layer_chain.specs.LayerCells.{bit_place, cell_bits_at, read_bit};
 
-use isdbt_base::{LayerSetting, Mode};
+use isdbt_base::{LayerSetting, Mode, Modulation};
 
 /// The coded bits of some frames depend on the packets of these frames alone.
 pub fn prefix_law(mode: Mode, layer: LayerSetting)
@@ -29,4 +31,11 @@ pub fn cell_prefix_law(mode: Mode, layer: LayerSetting)
     ensures { (packet other : ℕ → List ℕ) (frames y w : ℕ) → y < 204 * frames → w < layer_cells mode layer
         → ((m : ℕ) → m < packets_per_frame mode layer * frames → packet m ≡ other m)
         → cell_bits_at mode layer (layer_coded_bit mode layer packet) y w ≡ cell_bits_at mode layer (layer_coded_bit mode layer other) y w }
+{}
+
+/// The two sides of bit interleaving of a layer are partners, either first: so are a `BitStage` and a `BitDeinterleaver` that
+/// were opened for one modulation.
+pub fn bit_partner_law(modulation: Modulation)
+    ensures sender_first { ArePartners (inter_layout (cell_bits modulation)) (deinter_layout (cell_bits modulation)) }
+    ensures receiver_first { ArePartners (deinter_layout (cell_bits modulation)) (inter_layout (cell_bits modulation)) }
 {}

@@ -29,7 +29,7 @@ mod unit_answers;
 mod units;
 
 pub use coded_layer::CodedLayer;
-pub use laws::{cell_prefix_law, distinct_places_law, prefix_law, read_back_law};
+pub use laws::{bit_partner_law, cell_prefix_law, distinct_places_law, prefix_law, read_back_law};
 pub use layer_coder::{Held, LayerCoder};
 pub use layer_decoder::LayerDecoder;
 pub use receive_laws::{
