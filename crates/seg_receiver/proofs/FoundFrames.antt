@@ -117,7 +117,7 @@ coded_frame-broadcast p frames count f plan sizes h =
     ap (λ o. frame_cells p (frames_from p stream o) f) (first_head-broadcast p frames count plan sizes (omega (arith, h)))
     ∙ frame_cells-same p (frames_from p stream (Some 0)) frames f plan (λ g j x l le used k. input_frames-broadcast p frames count g j x l plan sizes (omega (arith, le, h)) used k)
 
-product-same : (f g : ℕ → List ℕ) (n : ℕ) → ((k : ℕ) → k < n → f k ≡ g k) → product f n ≡ product g n
+pub product-same : (f g : ℕ → List ℕ) (n : ℕ) → ((k : ℕ) → k < n → f k ≡ g k) → product f n ≡ product g n
 unfolding product
 product-same f g n h = flat_map-same f g 0 n (λ k a b. h k (omega (arith, b)))
 

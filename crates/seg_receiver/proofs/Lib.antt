@@ -1,6 +1,7 @@
 pub mod AcceptedStream
 pub mod BroadcastSlots
 pub mod CleanDelivered
+pub mod CodedInput
 pub mod DecoderParts
 pub mod EpochProgress
 pub mod EpochStarts

@@ -1,6 +1,6 @@
 //! Laws of the commands one after another: `code` of what `remux` writes, and what is received of it.
 
-ghost use Rattle.std.specs.Prelude.{◌≡◌, ℕ, ◌+◌, ◌-◌, ◌<◌, ◌≤◌, Some, None, List};
+ghost use Rattle.std.specs.Prelude.{◌≡◌, ℕ, ◌+◌, ◌-◌, ◌<◌, ◌≤◌, Some, None, List, []};
 ghost use Rattle.isdbt_base.specs.declared.kinds.Mode.{Mode};
 ghost use Rattle.isdbt_base.specs.declared.kinds.Guard.{Guard};
 ghost use Rattle.isdbt_base.specs.declared.kinds.Layer.{Layer};
@@ -9,7 +9,7 @@ ghost use Rattle.isdbt_base.specs.Parameters.{layer_of};
 ghost use Rattle.isdbt_base.specs.Numbers.{packets_per_frame};
 ghost use Rattle.isdbt_base.specs.Plans.{Schedule, IsPlan, at_frame};
 ghost use Rattle.isdbt_base.specs.Frames.{FramePackets};
-ghost use Rattle.isdbt_base.specs.Outcome.{product, IsOutcome};
+ghost use Rattle.isdbt_base.specs.Outcome.{product, ArePassed, IsOutcome};
 ghost use Rattle.ts_packet.specs.Packets.{IsPacket, piece};
 ghost use Rattle.gf_rs.specs.Codewords.{IsBytes};
 ghost use Rattle.remux_core.specs.Multiplex.{placed_before, multiplexed, packet_count, frame_delay, broadcast, written_frame};
@@ -20,7 +20,7 @@ ghost use Rattle.coder_core.specs.SentCells.{frame_cells};
 ghost use Rattle.coder_core.specs.CodeRefusals.{code_refusal, is_there, coded_frame};
 ghost use Rattle.seg_receiver.specs.CellStream.{first_version};
 ghost use Rattle.seg_receiver.specs.Received.{received};
-ghost use Rattle.seg_receiver.specs.Delivered.{SendsIn, delivered, ArePackets, IsDelivered};
+ghost use Rattle.seg_receiver.specs.Delivered.{SendsIn, delivered, ArePackets, IsNear, IsDelivered};
 ghost use Rattle.seg_receiver.specs.Composed.{broadcast_stream, HaveSize};
 
 /// What `code` finds in the broadcast packets of a plan's frames, with switches or without, is what was multiplexed: the
@@ -71,4 +71,14 @@ pub fn accepted_law()
 pub fn input_law()
     ensures { (p : Schedule) (input : Layer → List ℕ) (x : Layer) (i f : ℕ) → i < packet_count input x → IsPlacedIn p x i f
         → IsDelivered p (multiplexed p input) x (f + frame_delay p f x) (i - placed_before p x f) (piece 188 (input x) i) }
+{}
+
+/// And whatever bytes `code` is given: the frames that it passes hold packets of bytes, and the cells that it writes of them are
+/// near these packets, for a plan that sends in one mode and with one guard interval. Where no packet bears the head it writes
+/// nothing.
+pub fn code_near_law()
+    ensures near { (mode : Mode) (guard : Guard) (p : Schedule) (input : List ℕ) (count limit head : ℕ) → IsPlan p → IsBytes input → ArePassed (code_refusal p input limit) (is_there p input) count → SendsIn mode guard p count → first_head input ≡ Some head
+        → ArePackets p (input_frames p input head) count × IsNear (first_version mode guard (product (coded_frame p input) count)) p (input_frames p input head) count }
+    ensures none { (p : Schedule) (input : List ℕ) (count limit : ℕ) → ArePassed (code_refusal p input limit) (is_there p input) count → first_head input ≡ None
+        → (count ≡ 0) × (product (coded_frame p input) count ≡ []) }
 {}

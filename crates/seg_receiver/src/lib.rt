@@ -31,7 +31,8 @@ mod symbols;
 mod words;
 
 pub use compose_laws::{
-    accepted_law, chain_law, composed_law, found_law, headline_law, input_law, multiplexed_law,
+    accepted_law, chain_law, code_near_law, composed_law, found_law, headline_law, input_law,
+    multiplexed_law,
 };
 pub use fault::ReceiveFault;
 pub use laws::{near_law, partial_law, prefix_law, received_law, row_law};
