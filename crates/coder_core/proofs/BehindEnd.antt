@@ -1,14 +1,13 @@
 -- No frame behind the end of a stream is refused.
-use Rattle.std.proofs.Common.{◌≡◌, ℕ, zero, suc, ◌+◌, ◌-◌, ◌*◌, ◌≤◌, ◌<◌, Bool, true, false, List, length, refl, ap, sym, ◌∙◌, arith, inl, inr}
-use Rattle.std.specs.Prelude.{Some, None, ◌==◌, if◌then◌else◌}
+use Rattle.std.proofs.Common.{◌≡◌, ℕ, zero, suc, ◌+◌, ◌-◌, ◌≤◌, ◌<◌, false, List, length, refl, ap, ◌∙◌, arith, inl, inr}
+use Rattle.std.specs.Prelude.{Some, None}
 use Rattle.std.specs.declared.option.Option.{Option}
 use Rattle.std.proofs.lemmas.Bool.{cases_lt, ne_eqb, ltb-false, le-ltb}
-use Rattle.isdbt_base.specs.Outcome.{first_some, IsOutcome}
+use Rattle.isdbt_base.specs.Outcome.{IsOutcome}
 use Rattle.isdbt_base.specs.Plans.{Schedule}
-use Rattle.coder_core.specs.declared.fault.CodeFault.{CodeFault}
 use Rattle.coder_core.specs.InputFrames.{first_head, packets_before, frame_start}
-use Rattle.coder_core.specs.CodeRefusals.{search_refusal, has_byte_of, frame_refusal, refusal_from, code_refusal, there_from, is_there}
-use Rattle.coder_core.proofs.PlainFrames.{packets_before-suc, first_some-one}
+use Rattle.coder_core.specs.CodeRefusals.{has_byte_of, refusal_from, code_refusal, there_from, is_there}
+use Rattle.coder_core.proofs.PlainFrames.{packets_before-suc}
 
 packets-rise : (p : Schedule) (f n : ℕ) → packets_before p f ≤ packets_before p (f + n)
 packets-rise p f zero = (let e = ap (packets_before p) (let e' : f ≡ f + 0 = omega arith in e') in omega (arith, e))

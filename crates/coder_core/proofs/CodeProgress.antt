@@ -1,11 +1,11 @@
 -- How far the frames of a stream have come.
-use Rattle.std.proofs.Common.{◌≡◌, ℕ, ◌+◌, ◌-◌, ◌*◌, ◌≤◌, ◌<◌, min, Bool, true, false, List, [], ◌∷◌, ◌++◌, length, take, drop, refl, ap, sym, ◌∙◌, subst, arith, inl, inr, drop-drop, length-drop}
+use Rattle.std.proofs.Common.{◌≡◌, ℕ, ◌+◌, ◌-◌, ◌*◌, ◌≤◌, ◌<◌, min, true, false, List, [], ◌∷◌, ◌++◌, length, take, drop, refl, ap, sym, ◌∙◌, subst, arith, drop-drop, length-drop}
 use Rattle.std.specs.Prelude.{Some, None, Ok, Err, ◌==◌, if◌then◌else◌}
 use Rattle.std.specs.declared.option.Option.{Option}
 use Rattle.std.specs.declared.result.Result.{Result}
 use Rattle.std.proofs.Math.Seq.{take-add}
-use Rattle.std.proofs.lemmas.Bool.{cases_lt, ne_eqb, eq-eqb, lt-ltb, le-ltb}
-use Rattle.std.proofs.lemmas.List.{drop_all, take_all, append-nil}
+use Rattle.std.proofs.lemmas.Bool.{ne_eqb, eq-eqb, lt-ltb, le-ltb}
+use Rattle.std.proofs.lemmas.List.{drop_all, take_all}
 use Rattle.isdbt_base.specs.declared.kinds.Mode.{Mode}
 use Rattle.isdbt_base.specs.Parameters.{Parameters}
 use Rattle.isdbt_base.specs.Outcome.{first_some}
@@ -19,7 +19,7 @@ use Rattle.coder_core.specs.declared.fault.CodeFault.TheVariants.{BadSync, Trunc
 use Rattle.coder_core.specs.FrameChecks.{refusal}
 use Rattle.coder_core.specs.InputFrames.{first_head, slots_at, packets_before, frame_start, frame_at, packet_in, input_frames}
 use Rattle.coder_core.specs.SentCells.{epoch_frame_cells, plan_word}
-use Rattle.coder_core.specs.CodeRefusals.{search_refusal, has_byte_of, truncated, frame_refusal, code_refusal, is_there, coded_frame}
+use Rattle.coder_core.specs.CodeRefusals.{search_refusal, has_byte_of, truncated, frame_refusal, coded_frame}
 use Rattle.coder_core.specs.Reading.{FilledTo, StoppedBelow}
 use Rattle.coder_core.specs.Coder.{IsFrameOf}
 use Rattle.coder_core.specs.Answers.{IsPlain, Found, code_kind, code_command, EndAnswer}

@@ -1,6 +1,6 @@
 -- The bytes that are taken before a frame.
-use Rattle.std.proofs.Common.{◌≡◌, ℕ, ◌+◌, ◌*◌, ◌≤◌, ◌<◌, min, Bool, true, false, List, length, refl, ap, sym, ◌∙◌, arith, inl, inr}
-use Rattle.std.specs.Prelude.{Some, None, ◌==◌, ◌||◌, is_some, unwrap_or, find, if◌then◌else◌}
+use Rattle.std.proofs.Common.{◌≡◌, ℕ, ◌+◌, ◌*◌, ◌≤◌, ◌<◌, Bool, false, List, length, refl, ap, ◌∙◌, arith, inl, inr}
+use Rattle.std.specs.Prelude.{Some, None, ◌||◌, is_some, unwrap_or, find}
 use Rattle.std.specs.declared.option.Option.{Option}
 use Rattle.std.specs.List.{range_with_len}
 use Rattle.std.proofs.lemmas.Bool.{cases_lt, ne_eqb}

@@ -1,11 +1,11 @@
 -- Frames passed and written, one after another.
-use Rattle.std.proofs.Common.{◌≡◌, ℕ, ◌+◌, ◌≤◌, ◌<◌, Bool, true, false, List, [], ◌++◌, length, take, refl, ap, sym, ◌∙◌, subst, arith, inl, inr}
+use Rattle.std.proofs.Common.{◌≡◌, ℕ, ◌+◌, true, false, List, [], ◌++◌, take, refl, ap, sym, ◌∙◌, subst, arith, inl, inr}
 use Rattle.std.specs.Prelude.{Some, None, Ok, Err}
 use Rattle.std.specs.declared.result.Result.{Result}
 use Rattle.std.specs.declared.option.Option.{Option}
 use Rattle.std.proofs.lemmas.Bool.{cases_lt}
 use Rattle.std.proofs.lemmas.List.{append-nil}
-use Rattle.isdbt_base.specs.Outcome.{ArePassed, IsOutcome, product}
+use Rattle.isdbt_base.specs.Outcome.{product}
 use Rattle.isdbt_base.proofs.Products.{product-none, product-more}
 use Rattle.edge_io.specs.Known.{append_known}
 use Rattle.edge_io.specs.declared.shelf.Seat.{Seat}

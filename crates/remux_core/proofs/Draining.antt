@@ -12,7 +12,7 @@ use Rattle.edge_io.specs.Causes.{Cause, Rose}
 use Rattle.remux_core.specs.declared.fault.RemuxFault.{RemuxFault}
 use Rattle.remux_core.specs.declared.fault.RemuxFault.TheVariants.{BadSync, Truncated, ReadFault, WriteFault, TooLong, NoMemory}
 use Rattle.remux_core.specs.Multiplex.{placed_before, data_frames, frame_count, packet_count, written_frame}
-use Rattle.remux_core.specs.Refusals.{refusal, is_there, seat_of}
+use Rattle.remux_core.specs.Refusals.{is_there, seat_of}
 use Rattle.remux_core.specs.Frames.{packets_of}
 use Rattle.edge_io.specs.FrameAnswers.{FaultKind, frame_refused, read_failed, write_failed, no_memory, Passed, Wrote, Ended, FaultCause}
 use Rattle.edge_io.proofs.FrameAnswers.{wrote-more, wrote_part, passed-more, ended-refused, ended-done}

@@ -10,7 +10,8 @@ use Rattle.isdbt_base.specs.declared.kinds.Guard.{Guard}
 use Rattle.isdbt_base.specs.Outcome.{first_some}
 use Rattle.isdbt_base.specs.Parameters.{Parameters}
 use Rattle.edge_io.specs.Causes.{Cause}
-use Rattle.edge_io.specs.FrameAnswers.{frame_refused, Refused, FaultAnswer, LoneCommand, TookAtMost, lone_account, LoneAnswer}
+use Rattle.edge_io.specs.FrameAnswers.{frame_refused, ReadingCause}
+use Rattle.edge_io.proofs.FrameAnswers.{refused_answer, refused_reading}
 use Rattle.tmcc_word.specs.declared.fault.TmccFault.{TmccFault}
 use Rattle.tmcc_word.specs.declared.fault.TmccFault.TheVariants as words
 use Rattle.tmcc_word.specs.Fields.{TmccFields}
@@ -22,7 +23,7 @@ use Rattle.seg_receiver.specs.CellStream.{stream_word, first_version}
 use Rattle.seg_receiver.specs.ReceiveRefusals.{expected, is_had, behind_refusal, part_refusal, word_refusal}
 use Rattle.seg_receiver.specs.ReceiveAnswers.{receive_kind, receive_command}
 use Rattle.seg_receiver.specs.FrameReading.{Came}
-use Rattle.seg_receiver.specs.EpochAnswers.{FrameRefused, FrameCheck, Progress, TakeAnswer, TakeFault, TakeCause}
+use Rattle.seg_receiver.specs.EpochAnswers.{FrameRefused, FrameCheck, Progress, TakeAnswer}
 use Rattle.seg_receiver.proofs.ReceiveProgress.{nothing_came, frame-refused, taken_frame}
 
 -- ---- the kinds of faults
@@ -53,12 +54,6 @@ pub refused-kind : (mode : Mode) (partial : Bool) (f : ℕ) (before : Option (Tm
 refused-kind mode partial f before frame count fault (inl cut) = subst OfFrame (sym cut.2) refl
 refused-kind mode partial f before frame count fault (inr bad) = subst (λ o. IfSome o OfFrame) bad.1 (word-kind f partial before (read (stream_word mode frame 0)))
 
-pub frame_answer : (c : LoneCommand ReceiveFault) (before now left : Option (List ℕ)) (fault : ReceiveFault) → OfFrame fault → Refused c.frames (TookAtMost c left) fault before now → LoneAnswer receive_kind c before now left (Err fault)
-frame_answer c before now left fault kind refused = subst (FaultAnswer c.frames (lone_account c left) before now fault) (sym kind) refused
-
-frame_cause : (shelf shelf' : Cause → ℕ) (fault : ReceiveFault) → OfFrame fault → shelf' ≡ shelf → TakeCause {X = Option (TmccFields × Bool)} shelf shelf' (Err fault)
-frame_cause shelf shelf' fault kind kept = subst (TakeFault shelf shelf') (sym kind) kept
-
 -- ---- what a frame says
 
 pub take_answer : (mode : Mode) (guard : Guard) (partial : Bool) (stream : List ℕ) (limit f n : ℕ) (last : Option (TmccFields × Bool)) (frame : List ℕ) (left left' before now : Option (List ℕ)) (result : Result (Option (TmccFields × Bool)) ReceiveFault)
@@ -69,9 +64,9 @@ take_answer mode guard partial stream limit f n last frame left left' before now
 take_answer mode guard partial stream limit f n last frame left left' before now (Ok (Some said)) less size so_far came check =
     taken_frame mode guard partial stream limit f n last said frame left left' before now less size check.0 check.1 check.2 so_far came
 take_answer mode guard partial stream limit f n last frame left left' before now (Err fault) less size so_far came check =
-    frame_answer (receive_command (first_version mode guard stream) partial stream limit) before now left' fault (refused-kind mode partial f last frame n fault check)
+    refused_answer receive_kind (receive_command (first_version mode guard stream) partial stream limit) before now left' fault (refused-kind mode partial f last frame n fault check)
     (frame-refused mode guard partial stream limit f n fault last frame left left' before now less size so_far came check)
 
-pub take_cause : (mode : Mode) (partial : Bool) (f n : ℕ) (last : Option (TmccFields × Bool)) (frame : List ℕ) (shelf shelf' : Cause → ℕ) (result : Result (Option (TmccFields × Bool)) ReceiveFault) → FrameCheck mode partial f last frame n result → shelf' ≡ shelf → TakeCause shelf shelf' result
+pub take_cause : (mode : Mode) (partial : Bool) (f n : ℕ) (last : Option (TmccFields × Bool)) (frame : List ℕ) (shelf shelf' : Cause → ℕ) (result : Result (Option (TmccFields × Bool)) ReceiveFault) → FrameCheck mode partial f last frame n result → shelf' ≡ shelf → ReadingCause receive_kind shelf shelf' result
 take_cause mode partial f n last frame shelf shelf' (Ok o) check kept = kept
-take_cause mode partial f n last frame shelf shelf' (Err fault) check kept = frame_cause shelf shelf' fault (refused-kind mode partial f last frame n fault check) kept
+take_cause mode partial f n last frame shelf shelf' (Err fault) check kept = refused_reading (Option (TmccFields × Bool)) receive_kind shelf shelf' fault (refused-kind mode partial f last frame n fault check) kept

@@ -6,8 +6,7 @@ use Rattle.isdbt_base.specs.declared.kinds.Mode.{Mode}
 use Rattle.isdbt_base.specs.declared.kinds.Guard.{Guard}
 use Rattle.isdbt_base.specs.Parameters.{Parameters, layer_of}
 use Rattle.edge_io.specs.declared.shelf.Seat.TheVariants as seats
-use Rattle.edge_io.specs.Causes.{Rose, Cause, Reading}
-use Rattle.edge_io.specs.FrameAnswers.{FaultKind, frame_refused, read_failed, write_failed, no_memory, Passed, Wrote, Finished, LoneAnswer}
+use Rattle.edge_io.specs.FrameAnswers.{Passed, Wrote, Finished, LoneAnswer}
 use Rattle.frame_order.specs.OrderedFrame.{ordered_frame}
 use Rattle.tmcc_word.specs.Fields.{TmccFields}
 use Rattle.tmcc_word.specs.Reading.{read}
@@ -65,17 +64,6 @@ abbrev pub TakeAnswer : View → Bool → List ℕ → ℕ → ℕ → Option (T
 TakeAnswer v partial stream limit f last frame before now left (Ok None) = Finished (receive_command v partial stream limit) f before now left
 TakeAnswer v partial stream limit f last frame before now left (Ok (Some said)) = Taken v partial stream limit f last said frame left
 TakeAnswer v partial stream limit f last frame before now left (Err fault) = LoneAnswer receive_kind (receive_command v partial stream limit) before now left (Err fault)
-
--- when the taking may fail with a fault of this kind
-abbrev pub TakeFault : (Cause → ℕ) → (Cause → ℕ) → FaultKind → Type 0
-TakeFault shelf shelf' frame_refused = shelf' ≡ shelf
-TakeFault shelf shelf' (read_failed seat) = (seat ≡ seats.In) × Rose (shelf (Reading seat)) (shelf' (Reading seat))
-TakeFault shelf shelf' write_failed = ⊥
-TakeFault shelf shelf' no_memory = ⊥
-
-abbrev pub TakeCause : {X : Type 0} → (Cause → ℕ) → (Cause → ℕ) → Result X ReceiveFault → Type 0
-TakeCause shelf shelf' (Ok x) = shelf' ≡ shelf
-TakeCause shelf shelf' (Err fault) = TakeFault shelf shelf' (receive_kind fault)
 
 -- ---- epochs
 

@@ -4,7 +4,7 @@ ghost use Rattle.std.specs.Prelude.{◌≡◌, ℕ, List, ◌+◌, ◌*◌, ◌�
 ghost use Rattle.std.specs.declared.option.Option.{Option};
 ghost use Rattle.isdbt_base.specs.Numbers.{carriers, slots_per_frame};
 ghost use Rattle.edge_io.specs.declared.shelf.Seat.TheVariants as seats;
-ghost use Rattle.edge_io.specs.FrameAnswers.{AnswerCause, AnswerRoom};
+ghost use Rattle.edge_io.specs.FrameAnswers.{LoneCause, AnswerRoom};
 ghost use Rattle.tmcc_word.specs.Fields.{TmccFields};
 ghost use Rattle.coder_core.specs.SentCells.{frame_size};
 ghost use Rattle.seg_receiver.specs.CellStream.{stream_cell, first_version};
@@ -58,7 +58,7 @@ fn receive_further<H: Shelf, K: Sink>(
     ensures answer { (stream : List ℕ) (start h : ℕ) (first : Option (List ℕ)) → start + h ≡ next → 0 < h → StandsFor receiver.old (stream_cell mode stream) start h
         → InEpoch (first_version mode (guard_of receiver.old) stream) false stream limit start next said.now (H.left shelf.old seats.In) first (K.written sink.old)
         → EpochAnswer (first_version mode (guard_of receiver.old) stream) false stream limit first (K.written sink.new) (H.left shelf.new seats.In) result }
-    ensures cause { AnswerCause receive_kind (λ seat. seat ≡ seats.In) (H.faults shelf.old) (H.faults shelf.new) (K.faults sink.old) (K.faults sink.new) result }
+    ensures cause { LoneCause receive_kind (H.faults shelf.old) (H.faults shelf.new) (K.faults sink.old) (K.faults sink.new) result }
     ensures sink_room { K.room sink.new ≡ K.room sink.old }
     ensures reached { AnswerRoom receive_kind (K.room sink.old) (K.written sink.new) result }
 {
@@ -116,7 +116,7 @@ fn receive_held<H: Shelf, K: Sink>(
     ensures answer { (stream : List ℕ) (last : Option (TmccFields × Bool)) (known first : Option (List ℕ)) → AtEpoch (first_version mode guard stream) false stream limit number last known first (K.written sink.old)
         → Taken (first_version mode guard stream) false stream limit number last said.now frame.old (H.left shelf.old seats.In)
         → EpochAnswer (first_version mode guard stream) false stream limit first (K.written sink.new) (H.left shelf.new seats.In) result }
-    ensures cause { AnswerCause receive_kind (λ seat. seat ≡ seats.In) (H.faults shelf.old) (H.faults shelf.new) (K.faults sink.old) (K.faults sink.new) result }
+    ensures cause { LoneCause receive_kind (H.faults shelf.old) (H.faults shelf.new) (K.faults sink.old) (K.faults sink.new) result }
     ensures sink_room { K.room sink.new ≡ K.room sink.old }
     ensures reached { AnswerRoom receive_kind (K.room sink.old) (K.written sink.new) result }
 {
@@ -167,7 +167,7 @@ pub fn receive_epoch<H: Shelf, K: Sink>(
     ensures past { EndsPast number limit result }
     ensures answer { (stream : List ℕ) (first : Option (List ℕ)) → AtEpoch (first_version mode guard stream) false stream limit number before.now (H.left shelf.old seats.In) first (K.written sink.old)
         → EpochAnswer (first_version mode guard stream) false stream limit first (K.written sink.new) (H.left shelf.new seats.In) result }
-    ensures cause { AnswerCause receive_kind (λ seat. seat ≡ seats.In) (H.faults shelf.old) (H.faults shelf.new) (K.faults sink.old) (K.faults sink.new) result }
+    ensures cause { LoneCause receive_kind (H.faults shelf.old) (H.faults shelf.new) (K.faults sink.old) (K.faults sink.new) result }
     ensures sink_room { K.room sink.new ≡ K.room sink.old }
     ensures reached { AnswerRoom receive_kind (K.room sink.old) (K.written sink.new) result }
 {

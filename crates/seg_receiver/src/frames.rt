@@ -7,13 +7,13 @@ ghost use Rattle.isdbt_base.specs.Numbers.{carriers, slots_per_frame};
 ghost use Rattle.edge_io.specs.declared.shelf.Seat.TheVariants as seats;
 ghost use Rattle.edge_io.specs.Known.{append_known, ReachesRoom};
 ghost use Rattle.edge_io.specs.Causes.{HasCause};
-ghost use Rattle.edge_io.specs.FrameAnswers.{LoneAnswer};
+ghost use Rattle.edge_io.specs.FrameAnswers.{LoneAnswer, ReadingCause};
 ghost use Rattle.coder_core.specs.SentCells.{frame_size};
 ghost use Rattle.tmcc_word.specs.Fields.{TmccFields};
 ghost use Rattle.seg_receiver.specs.CellStream.{FrameCells, stream_cell, first_version};
 ghost use Rattle.seg_receiver.specs.Receiver.{mode_of, guard_of, setting_of, symbols_of, StandsFor};
 ghost use Rattle.seg_receiver.specs.ReceiveAnswers.{receive_kind, receive_command};
-ghost use Rattle.seg_receiver.specs.EpochAnswers.{epoch_frame, FrameCheck, Progress, TakeAnswer, TakeCause};
+ghost use Rattle.seg_receiver.specs.EpochAnswers.{epoch_frame, FrameCheck, Progress, TakeAnswer};
 
 use crate::check_word::check_word;
 use crate::fault::ReceiveFault;
@@ -68,7 +68,7 @@ pub fn read_first<H: Shelf>(
     ensures still_open { H.is_open shelf.new ≡ H.is_open shelf.old }
     ensures answer { (guard : Guard) (stream : List ℕ) (first now : Option (List ℕ)) → Progress (first_version mode guard stream) false stream limit number before.now (H.left shelf.old seats.In) first now
         → TakeAnswer (first_version mode guard stream) false stream limit number before.now frame.new first now (H.left shelf.new seats.In) result }
-    ensures cause { TakeCause (H.faults shelf.old) (H.faults shelf.new) result }
+    ensures cause { ReadingCause receive_kind (H.faults shelf.old) (H.faults shelf.new) result }
 {
     let count = match fill(shelf, Seat::In, frame) {
         Ok(count) => count,
@@ -103,7 +103,7 @@ pub fn read_further<H: Shelf>(
     ensures mode_kept { mode_of receiver.new ≡ mode_of receiver.old }
     ensures guard { guard_of receiver.new ≡ guard_of receiver.old }
     ensures setting { setting_of receiver.new ≡ setting_of receiver.old }
-    ensures cause { TakeCause (H.faults shelf.old) (H.faults shelf.new) result }
+    ensures cause { ReadingCause receive_kind (H.faults shelf.old) (H.faults shelf.new) result }
 {
     let count = match feed_read(receiver, mode, frame, cells, shelf) {
         Ok(count) => count,
@@ -168,7 +168,7 @@ pub fn end_at_limit<H: Shelf>(
     ensures still_open { H.is_open shelf.new ≡ H.is_open shelf.old }
     ensures answer { (guard : Guard) (stream : List ℕ) (last : Option (TmccFields × Bool)) (first now : Option (List ℕ)) → Progress (first_version mode guard stream) false stream limit limit last (H.left shelf.old seats.In) first now
         → LoneAnswer receive_kind (receive_command (first_version mode guard stream) false stream limit) first now (H.left shelf.new seats.In) result }
-    ensures cause { TakeCause (H.faults shelf.old) (H.faults shelf.new) result }
+    ensures cause { ReadingCause receive_kind (H.faults shelf.old) (H.faults shelf.new) result }
 {
     match fill(shelf, Seat::In, &mut frame[..1]) {
         Ok(0) => Ok(limit),

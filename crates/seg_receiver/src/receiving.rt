@@ -3,7 +3,7 @@
 ghost use Rattle.std.specs.Prelude.{◌≡◌, ℕ, List, ◌*◌, ◌≤◌, ◌<◌, Some, true, false, length, vec_len, IfOk};
 ghost use Rattle.isdbt_base.specs.Numbers.{carriers, slots_per_frame};
 ghost use Rattle.edge_io.specs.declared.shelf.Seat.TheVariants as seats;
-ghost use Rattle.edge_io.specs.FrameAnswers.{LoneAnswer, AnswerCause, AnswerRoom};
+ghost use Rattle.edge_io.specs.FrameAnswers.{LoneAnswer, LoneCause, AnswerRoom};
 ghost use Rattle.coder_core.specs.SentCells.{frame_size};
 ghost use Rattle.seg_receiver.specs.CellStream.{first_version};
 ghost use Rattle.seg_receiver.specs.ReceiveAnswers.{receive_kind, receive_command};
@@ -54,7 +54,7 @@ fn receive_epochs<H: Shelf, K: Sink>(
     ensures answer { (stream : List ℕ) → H.left shelf.old seats.In ≡ Some stream
         → LoneAnswer receive_kind (receive_command (first_version mode guard stream) false stream limit) (K.written sink.old) (K.written sink.new) (H.left shelf.new seats.In) result }
     ensures still_open { H.is_open shelf.new ≡ H.is_open shelf.old }
-    ensures cause { AnswerCause receive_kind (λ seat. seat ≡ seats.In) (H.faults shelf.old) (H.faults shelf.new) (K.faults sink.old) (K.faults sink.new) result }
+    ensures cause { LoneCause receive_kind (H.faults shelf.old) (H.faults shelf.new) (K.faults sink.old) (K.faults sink.new) result }
     ensures room { K.room sink.new ≡ K.room sink.old }
     ensures reached { AnswerRoom receive_kind (K.room sink.old) (K.written sink.new) result }
 {
@@ -98,7 +98,7 @@ fn receive_within<H: Shelf, K: Sink>(
     ensures answer { (stream : List ℕ) → H.left shelf.old seats.In ≡ Some stream
         → LoneAnswer receive_kind (receive_command (first_version mode guard stream) false stream limit) (K.written sink.old) (K.written sink.new) (H.left shelf.new seats.In) result }
     ensures still_open { H.is_open shelf.new ≡ H.is_open shelf.old }
-    ensures cause { AnswerCause receive_kind (λ seat. seat ≡ seats.In) (H.faults shelf.old) (H.faults shelf.new) (K.faults sink.old) (K.faults sink.new) result }
+    ensures cause { LoneCause receive_kind (H.faults shelf.old) (H.faults shelf.new) (K.faults sink.old) (K.faults sink.new) result }
     ensures room { K.room sink.new ≡ K.room sink.old }
     ensures reached { AnswerRoom receive_kind (K.room sink.old) (K.written sink.new) result }
 {
@@ -132,7 +132,7 @@ pub fn receive<H: Shelf, K: Sink>(
     ensures answer { (stream : List ℕ) → H.left shelf.old seats.In ≡ Some stream
         → LoneAnswer receive_kind (receive_command (first_version mode guard stream) false stream limit) (K.written sink.old) (K.written sink.new) (H.left shelf.new seats.In) result }
     ensures still_open { H.is_open shelf.new ≡ H.is_open shelf.old }
-    ensures cause { AnswerCause receive_kind (λ seat. seat ≡ seats.In) (H.faults shelf.old) (H.faults shelf.new) (K.faults sink.old) (K.faults sink.new) result }
+    ensures cause { LoneCause receive_kind (H.faults shelf.old) (H.faults shelf.new) (K.faults sink.old) (K.faults sink.new) result }
 
     // The sink's room stays, and a write fails only where what was written reaches it.
     ensures room { K.room sink.new ≡ K.room sink.old }
