@@ -1,35 +1,87 @@
 -- The commands one after another.
-use Rattle.std.proofs.Common.{ℕ, ◌≤◌, List, sym, subst}
+use Rattle.std.proofs.Common.{◌≡◌, ℕ, ◌≤◌, List, [], None, Some, refl, sym, subst, arith}
+use Rattle.std.specs.Prelude.{false}
+use Rattle.std.specs.declared.option.Option.{Option}
 use Rattle.isdbt_base.specs.declared.kinds.Mode.{Mode}
 use Rattle.isdbt_base.specs.declared.kinds.Guard.{Guard}
 use Rattle.isdbt_base.specs.declared.kinds.Layer.{Layer}
 use Rattle.isdbt_base.specs.Plans.{Schedule, IsPlan}
 use Rattle.isdbt_base.specs.Frames.{FramePackets}
-use Rattle.isdbt_base.specs.Outcome.{product}
+use Rattle.isdbt_base.specs.Outcome.{product, ArePassed}
 use Rattle.gf_rs.specs.Codewords.{IsBytes}
-use Rattle.remux_core.specs.Multiplex.{multiplexed}
+use Rattle.edge_io.specs.Known.{append_known}
+use Rattle.edge_io.specs.FrameAnswers.{Finished}
+use Rattle.remux_core.specs.Multiplex.{multiplexed, broadcast}
 use Rattle.remux_core.specs.Parts.{IsGood}
+use Rattle.coder_core.specs.InputFrames.{first_head, input_frames}
+use Rattle.coder_core.specs.CodeRefusals.{code_refusal, is_there, coded_frame}
 use Rattle.coder_core.specs.SentCells.{frame_cells}
-use Rattle.seg_receiver.specs.Delivered.{HasMode, ArePackets, IsNear}
+use Rattle.coder_core.specs.Answers.{code_command}
+use Rattle.coder_core.proofs.BehindEnd.{free}
+use Rattle.seg_receiver.specs.CellStream.{View, first_version, AreInRow}
+use Rattle.seg_receiver.specs.Received.{received, received_frame}
+use Rattle.seg_receiver.specs.Delivered.{SendsIn, ArePackets, IsNear, delivered, delivered_packets}
 use Rattle.seg_receiver.proofs.AcceptedStream.{accepted-written}
 use Rattle.seg_receiver.proofs.CleanDelivered.{plan_cells-near}
-use Rattle.seg_receiver.proofs.FoundFrames.{coded-broadcast, sizes_of}
+use Rattle.seg_receiver.proofs.CodedInput.{coded-near, coded-none}
+use Rattle.seg_receiver.proofs.FoundFrames.{product-same, coded-broadcast, sizes_of}
 use Rattle.seg_receiver.proofs.InputDelivered.{input_delivered}
 use Rattle.seg_receiver.proofs.MultiplexedBytes.{multiplexed-packets}
-use Rattle.isdbt_cli.specs.Chain.{IsChain}
+use Rattle.seg_receiver.proofs.NearDelivered.{received_frame-near}
+use Rattle.seg_receiver.proofs.NearOutcome.{near_outcome}
+use Rattle.isdbt_cli.specs.Chain.{written_stream, IsReceivedAs, WroteNear, IsChain}
 use Rattle.isdbt_cli.specs.FrameLimit.{frame_limit}
 
--- the cells of a plan are near it
-pub near_cells : (p : Schedule) (frames : FramePackets) (count : ℕ) (mode : Mode) (guard : Guard) → IsPlan p → HasMode mode guard p → ArePackets p frames count → IsNear mode p frames count (product (frame_cells p frames) count)
-near_cells p frames count mode guard plan has packets = plan_cells-near mode p frames count plan (λ f. (has f).0) packets
+-- a view that is near a plan is received as what is delivered of it, and so is each front part of it
+pub near_received : (v : View) (p : Schedule) (frames : FramePackets) (count : ℕ) → IsPlan p → AreInRow v count → ArePackets p frames count → IsNear v p frames count → count ≤ frame_limit → IsReceivedAs v p frames count
+near_received v p frames count plan row packets near few = record {
+  outcome = near_outcome v p false count frame_limit plan row near.whole near.words (λ f h e. absurd (cc)) few;
+  product = λ m le. product-same (received_frame v) (broadcast p (delivered_packets p frames)) m (λ f less. received_frame-near v p frames count plan packets near f (omega (arith, le, less)));
+}
 
-pub chain : (p : Schedule) (mode : Mode) (guard : Guard) (input : Layer → List ℕ) (count : ℕ) → IsPlan p → HasMode mode guard p → ((x : Layer) → IsGood (input x)) → ((x : Layer) → IsBytes (input x)) → count ≤ frame_limit → IsChain p input mode count
+-- the cells of a plan are near it
+pub near_cells : (p : Schedule) (frames : FramePackets) (count : ℕ) (mode : Mode) (guard : Guard) → IsPlan p → SendsIn mode guard p count → ArePackets p frames count → IsNear (first_version mode guard (product (frame_cells p frames) count)) p frames count
+near_cells p frames count mode guard plan has packets = plan_cells-near mode guard p frames count plan has packets
+
+pub chain : (p : Schedule) (mode : Mode) (guard : Guard) (input : Layer → List ℕ) (count : ℕ) → IsPlan p → SendsIn mode guard p count → ((x : Layer) → IsGood (input x)) → ((x : Layer) → IsBytes (input x)) → count ≤ frame_limit → IsChain p input mode guard count
 chain p mode guard input count plan has good bytes few =
     let sent = multiplexed-packets p input count good bytes in
     let same = coded-broadcast p (multiplexed p input) count plan (sizes_of p (multiplexed p input) count sent) in
+    let all = accepted-written p input count frame_limit plan good bytes few in
     record {
-      coded = accepted-written p input count frame_limit plan good bytes few;
-      near = subst (IsNear mode p (multiplexed p input) count) (sym same) (near_cells p (multiplexed p input) count mode guard plan has sent);
+      coded = all;
+      free = free p (written_stream p input count) frame_limit count all;
+      cells = same;
+      near = subst (λ cells. IsNear (first_version mode guard cells) p (multiplexed p input) count) (sym same) (near_cells p (multiplexed p input) count mode guard plan has sent);
       packets = sent;
       places = input_delivered p input;
     }
+
+-- ---- a coding that is done
+
+-- a plan without switches sends all frames alike
+pub sends_alike : (p : Schedule) (count : ℕ) → p.switches ≡ [] → SendsIn p.first.mode p.first.guard p count
+sends_alike p count none f less = (rw none refl, rw none refl)
+
+-- the cells that were written are near the packets that were found
+found_near : (p : Schedule) (input : List ℕ) (m : ℕ) (before after : Option (List ℕ)) (o : Option ℕ) → IsPlan p → p.switches ≡ [] → IsBytes input → ArePassed (code_refusal p input frame_limit) (is_there p input) m → after ≡ append_known before (product (coded_frame p input) m) → first_head input ≡ o
+    → WroteNear p m before after
+found_near p input m before after None plan none bytes passed wrote found =
+    let empty = coded-none p input m frame_limit passed found in
+    let packets : ArePackets p (input_frames p input 0) m = λ f j x l less used within. absurd (omega (arith, less, empty.0)) in
+    let alike = sends_alike p m none in
+    let near = near_cells p (input_frames p input 0) m p.first.mode p.first.guard plan alike packets in
+    let same : product (frame_cells p (input_frames p input 0)) m ≡ product (coded_frame p input) m = product-same (frame_cells p (input_frames p input 0)) (coded_frame p input) m (λ f less. absurd (omega (arith, less, empty.0))) in
+    record {
+      frames = input_frames p input 0;
+      packets = packets;
+      cells = product (coded_frame p input) m;
+      near = subst (λ cells. IsNear (first_version p.first.mode p.first.guard cells) p (input_frames p input 0) m) same near;
+      written = wrote;
+    }
+found_near p input m before after (Some head) plan none bytes passed wrote found =
+    let near = coded-near p.first.mode p.first.guard p input m frame_limit head plan bytes passed (sends_alike p m none) found in
+    record { frames = input_frames p input head; packets = near.0; cells = product (coded_frame p input) m; near = near.1; written = wrote }
+
+pub wrote_near : (p : Schedule) (input : List ℕ) (m : ℕ) (before after left : Option (List ℕ)) → IsPlan p → p.switches ≡ [] → IsBytes input → Finished (code_command p input frame_limit) m before after left → WroteNear p m before after
+wrote_near p input m before after left plan none bytes done = found_near p input m before after (first_head input) plan none bytes done.ended.outcome.before done.ended.written refl

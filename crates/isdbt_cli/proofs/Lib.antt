@@ -10,6 +10,5 @@ pub mod OnePlace
 pub mod Rows
 pub mod NamedInputs
 pub mod Outcomes
-pub mod CodeOutcomes
-pub mod ReceiveOutcomes
+pub mod RunOutcomes
 pub mod Chains

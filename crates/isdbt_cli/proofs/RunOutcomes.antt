@@ -1,5 +1,5 @@
 -- What the answers to each command mean.
-use Rattle.std.proofs.Common.{◌≡◌, ◌⊎◌, ℕ, ◌≤◌, List, [], Bool, true, false, None, Some, Ok, Err, refl, sym, ap, ◌∙◌, subst, inl, inr}
+use Rattle.std.proofs.Common.{◌≡◌, ℕ, List, Bool, false, None, Some, Ok, Err, sym, ap, ◌∙◌, subst, inl, inr}
 use Rattle.std.specs.Prelude.{◌↔◌}
 use Rattle.std.specs.declared.option.Option.{Option}
 use Rattle.std.specs.declared.result.Result.{Result}
@@ -7,28 +7,22 @@ use Rattle.isdbt_base.specs.declared.kinds.Mode.{Mode}
 use Rattle.isdbt_base.specs.declared.kinds.Guard.{Guard}
 use Rattle.isdbt_base.specs.declared.kinds.Layer.{Layer}
 use Rattle.isdbt_base.specs.Outcome.{product, IsOutcome}
-use Rattle.isdbt_base.specs.Plans.{Schedule, IsPlan}
-use Rattle.isdbt_base.specs.Frames.{FramePackets}
-use Rattle.gf_rs.specs.Codewords.{IsBytes}
+use Rattle.isdbt_base.specs.Plans.{Schedule}
 use Rattle.edge_io.specs.declared.shelf.Seat.{Seat}
 use Rattle.edge_io.specs.declared.shelf.Seat.TheVariants as seats
 use Rattle.edge_io.specs.Known.{append_known}
 use Rattle.edge_io.specs.Causes.{Cause}
-use Rattle.edge_io.specs.FrameAnswers.{Refused, TookAtMost, lone_account, Finished, LoneAnswer}
+use Rattle.edge_io.specs.FrameAnswers.{lone_account, Finished, LoneAnswer}
 use Rattle.remux_core.specs.declared.fault.RemuxFault.{RemuxFault}
 use Rattle.remux_core.specs.declared.fault.RemuxFault.TheVariants as remux_faults
-use Rattle.remux_core.specs.Multiplex.{multiplexed}
 use Rattle.remux_core.specs.Parts.{IsGood}
-use Rattle.remux_core.specs.Refusals.{seat_of, refusal}
+use Rattle.remux_core.specs.Refusals.{refusal}
 use Rattle.remux_core.specs.Answers.{remux_kind, remux_command, remux_account, IsInputSeat, RemuxAnswer}
 use Rattle.remux_core.proofs.Refusing.{refusal-good}
 use Rattle.coder_core.specs.declared.fault.CodeFault.{CodeFault}
 use Rattle.coder_core.specs.CodeRefusals.{code_refusal, is_there, coded_frame}
-use Rattle.coder_core.specs.SentCells.{frame_cells}
 use Rattle.coder_core.specs.Answers.{code_kind, code_command}
-use Rattle.seg_receiver.specs.declared.fault.ReceiveFault.{ReceiveFault}
 use Rattle.seg_receiver.specs.CellStream.{first_version}
-use Rattle.seg_receiver.specs.Delivered.{ArePackets, IsNear, delivered}
 use Rattle.seg_receiver.specs.Received.{received}
 use Rattle.seg_receiver.specs.ReceiveRefusals.{receive_is_there, receive_refusal}
 use Rattle.seg_receiver.specs.ReceiveAnswers.{receive_kind, receive_command}
@@ -36,10 +30,10 @@ use Rattle.isdbt_cli.specs.declared.fault.Outcome.{Outcome}
 use Rattle.isdbt_cli.specs.declared.fault.Outcome.TheVariants.{Done, Fault}
 use Rattle.isdbt_cli.specs.declared.fault.RunFault.TheVariants.{Usage}
 use Rattle.isdbt_cli.specs.CommandLines.{Word, Command, remux, code, receive, IsRemux, IsCommand, Spells, IsFaultAt}
-use Rattle.isdbt_cli.specs.Chain.{written_stream, IsDoneWith, IsReceivedAs, IsChain, WroteNear}
+use Rattle.isdbt_cli.specs.Chain.{IsDoneWith}
 use Rattle.isdbt_cli.specs.Faults.{run_fault_of, run_fault_of_code, run_fault_of_receive}
 use Rattle.isdbt_cli.specs.FrameLimit.{frame_limit}
-use Rattle.isdbt_cli.specs.Run.{Names, layer_names, lone_name, names_of, outcome_of, EndsSo, AnswerOf, CauseOf, NothingRose, RefusesNone, IsDoneOrNoMemory, IsFree}
+use Rattle.isdbt_cli.specs.Run.{layer_names, lone_name, names_of, SeatsAfter, outcome_of, EndsSo, AnswerOf, CauseOf, NothingRose, RefusesNone, IsDoneOrNoMemory, IsFree}
 use Rattle.isdbt_cli.proofs.OnePlace.{no_place, one_place}
 use Rattle.isdbt_cli.proofs.NamedInputs.{used_name}
 use Rattle.isdbt_cli.proofs.Outcomes.{remux_keeps, code_keeps, receive_keeps, no_usage, same_count, no_refusal, quiet}
@@ -129,3 +123,14 @@ module _ (holds : Word → Option (List ℕ)) (before after : Option (List ℕ))
   pub coded_done : (p : Schedule) (input : List ℕ) (m : ℕ) → EndsSo run_fault_of_code (λ seat. after ≡ before) (LoneAnswer code_kind (code_command p input frame_limit) before after (left seats.In)) outcome → outcome ≡ Done m → Finished (code_command p input frame_limit) m before after (left seats.In)
   coded_done p input m (inl o) e = absurd (let failed = o.1 in cc)
   coded_done p input m (inr r) e = answer_done p input before after (left seats.In) m r.0 (sym r.1 ∙ e) r.2
+
+-- ---- the command that the words spell
+
+pub same_answer : (c d : Command) (holds : Word → Option (List ℕ)) (before after : Option (List ℕ)) (left : Seat → Option (List ℕ)) (outcome : Outcome) → c ≡ d → AnswerOf c holds before after left outcome → AnswerOf d holds before after left outcome
+same_answer c d holds before after left outcome same says = subst (λ e. AnswerOf e holds before after left outcome) same says
+
+pub same_cause : (c d : Command) (shelf shelf' : Cause → ℕ) (sink sink' : ℕ) (outcome : Outcome) → c ≡ d → CauseOf c shelf shelf' sink sink' outcome → CauseOf d shelf shelf' sink sink' outcome
+same_cause c d shelf shelf' sink sink' outcome same cause = subst (λ e. CauseOf e shelf shelf' sink sink' outcome) same cause
+
+pub same_seats : (c d : Command) (is_open : Seat → Bool) (outcome : Outcome) → c ≡ d → SeatsAfter (names_of c) is_open outcome → SeatsAfter (names_of d) is_open outcome
+same_seats c d is_open outcome same says = subst (λ e. SeatsAfter (names_of e) is_open outcome) same says

@@ -1,23 +1,55 @@
 -- The three commands one after another, from the layers' inputs to what is delivered.
-use Rattle.std.specs.Prelude.{ℕ, ◌+◌, ◌-◌, ◌<◌, List, None}
+use Rattle.std.specs.Prelude.{◌≡◌, ℕ, ◌+◌, ◌-◌, ◌<◌, ◌≤◌, false, List, None}
+use Rattle.std.specs.declared.option.Option.{Option}
 use Rattle.isdbt_base.specs.declared.kinds.Mode.{Mode}
+use Rattle.isdbt_base.specs.declared.kinds.Guard.{Guard}
 use Rattle.isdbt_base.specs.declared.kinds.Layer.{Layer}
 use Rattle.isdbt_base.specs.Plans.{Schedule}
+use Rattle.isdbt_base.specs.Frames.{FramePackets}
 use Rattle.isdbt_base.specs.Outcome.{product, IsOutcome}
 use Rattle.ts_packet.specs.Packets.{piece}
-use Rattle.remux_core.specs.Multiplex.{placed_before, multiplexed, packet_count, written_frame}
+use Rattle.edge_io.specs.Known.{append_known}
+use Rattle.remux_core.specs.Multiplex.{placed_before, multiplexed, packet_count, frame_delay, written_frame}
 use Rattle.remux_core.specs.Answers.{IsPlacedIn}
+use Rattle.coder_core.specs.SentCells.{frame_cells}
 use Rattle.coder_core.specs.CodeRefusals.{code_refusal, is_there, coded_frame}
-use Rattle.seg_receiver.specs.Delivered.{ArePackets, IsNear, frame_delay, IsDelivered}
+use Rattle.seg_receiver.specs.CellStream.{View, first_version}
+use Rattle.seg_receiver.specs.Received.{received}
+use Rattle.seg_receiver.specs.ReceiveRefusals.{receive_is_there, receive_refusal}
+use Rattle.seg_receiver.specs.Delivered.{ArePackets, IsNear, IsDelivered, delivered}
+use Rattle.isdbt_cli.specs.declared.fault.Outcome.{Outcome}
+use Rattle.isdbt_cli.specs.declared.fault.Outcome.TheVariants.{Done, Fault}
+use Rattle.isdbt_cli.specs.declared.fault.RunFault.TheVariants.{NoMemory}
 use Rattle.isdbt_cli.specs.FrameLimit.{frame_limit}
 
 -- what remux writes for the first so many frames of a plan and inputs
 abbrev pub written_stream : Schedule → (Layer → List ℕ) → ℕ → List ℕ
 written_stream p input count = product (written_frame p input) count
 
--- code finds all frames of what remux writes, and refuses none; the cells that it writes are near the plan and the multiplex of the inputs; the packets of the multiplex are packets of bytes; and each packet of an input that a frame of the multiplex places is delivered at that place of its layer, as many frames later as the layer's delay
-pub record IsChain (p : Schedule) (input : Layer → List ℕ) (mode : Mode) (count : ℕ) : Type 0 where
+-- done with so many frames, of which just these bytes were written, or no memory
+abbrev pub IsDoneWith : ℕ → List ℕ → Option (List ℕ) → Option (List ℕ) → Outcome → Type 0
+IsDoneWith count bytes before after (Done m) = (m ≡ count) × (after ≡ append_known before bytes)
+IsDoneWith count bytes before after (Fault NoMemory) = Unit {0}
+IsDoneWith count bytes before after (Fault fault) = ⊥
+
+-- a view is received as the delivered packets of a plan's frames: all are there and none is refused, and each front part of them is that of the delivered stream
+pub record IsReceivedAs (v : View) (p : Schedule) (frames : FramePackets) (count : ℕ) : Type 0 where
+  pub outcome : IsOutcome (receive_refusal v false frame_limit) (receive_is_there v) count None
+  pub product : (m : ℕ) → m ≤ count → received v m ≡ delivered p frames m
+
+-- cells were written that are near a plan and packets of bytes
+pub record WroteNear (p : Schedule) (count : ℕ) (before after : Option (List ℕ)) : Type 0 where
+  pub frames : FramePackets
+  pub packets : ArePackets p frames count
+  pub cells : List ℕ
+  pub near : IsNear (first_version p.first.mode p.first.guard cells) p frames count
+  pub written : after ≡ append_known before cells
+
+-- code finds all frames of what remux writes, and refuses none, also above the last; the cells that it writes are those of the plan and the multiplex of the inputs, and near them; the packets of the multiplex are packets of bytes; and each packet of an input that a frame of the multiplex places is delivered at that place of its layer, as many frames later as the layer's delay
+pub record IsChain (p : Schedule) (input : Layer → List ℕ) (mode : Mode) (guard : Guard) (count : ℕ) : Type 0 where
   pub coded : IsOutcome (code_refusal p (written_stream p input count) frame_limit) (is_there p (written_stream p input count)) count None
-  pub near : IsNear mode p (multiplexed p input) count (product (coded_frame p (written_stream p input count)) count)
+  pub free : (f : ℕ) → code_refusal p (written_stream p input count) frame_limit f ≡ None
+  pub cells : product (coded_frame p (written_stream p input count)) count ≡ product (frame_cells p (multiplexed p input)) count
+  pub near : IsNear (first_version mode guard (product (coded_frame p (written_stream p input count)) count)) p (multiplexed p input) count
   pub packets : ArePackets p (multiplexed p input) count
   pub places : (x : Layer) (i f : ℕ) → i < packet_count input x → IsPlacedIn p x i f → IsDelivered p (multiplexed p input) x (f + frame_delay p f x) (i - placed_before p x f) (piece 188 (input x) i)

@@ -2,8 +2,6 @@ pub mod CommandLines
 pub mod Parsing
 pub mod Faults
 pub mod FrameLimit
-pub mod CodeRun
-pub mod ReceiveRun
 pub mod Run
 pub mod Chain
 pub mod Lines

@@ -1,127 +1,147 @@
 -- What an answer of the program says.
-use Rattle.std.specs.Prelude.{◌≡◌, ℕ, ◌<◌, ◌≤◌, List, [], Bool, true, false, None, Some}
+use Rattle.std.specs.Prelude.{◌≡◌, ◌⊎◌, ℕ, ◌<◌, ◌≤◌, List, [], Bool, true, false, None, Some, Ok, Err}
 use Rattle.std.specs.declared.option.Option.{Option}
+use Rattle.std.specs.declared.result.Result.{Result}
 use Rattle.isdbt_base.specs.declared.kinds.Layer.{Layer}
-use Rattle.isdbt_base.specs.declared.kinds.Layer.TheVariants as layers
-use Rattle.isdbt_base.specs.Plans.{Schedule}
 use Rattle.edge_io.specs.declared.shelf.Seat.{Seat}
-use Rattle.edge_io.specs.declared.shelf.Seat.TheVariants as seats
+use Rattle.edge_io.specs.declared.shelf.Seat.TheVariants.{A, B, C, In}
 use Rattle.edge_io.specs.Causes.{Rose, Cause, Opening, Reading}
-use Rattle.remux_core.specs.declared.fault.RemuxFault.TheVariants as core
-use Rattle.remux_core.specs.Refusals.{seat_of}
-use Rattle.remux_core.specs.Answers.{IsUsed, place_of, Tells, Finished, Refused, ReadFailed, WriteFailed}
+use Rattle.edge_io.specs.FrameAnswers.{LoneAnswer, LoneCause}
+use Rattle.remux_core.specs.Refusals.{seat_of, refusal}
+use Rattle.remux_core.specs.Answers.{RemuxAnswer, RemuxCause}
+use Rattle.coder_core.specs.CodeRefusals.{code_refusal}
+use Rattle.coder_core.specs.Answers.{code_kind, code_command}
+use Rattle.seg_receiver.specs.CellStream.{first_version}
+use Rattle.seg_receiver.specs.ReceiveRefusals.{receive_refusal}
+use Rattle.seg_receiver.specs.ReceiveAnswers.{receive_kind, receive_command}
 use Rattle.isdbt_cli.specs.declared.fault.Outcome.{Outcome}
 use Rattle.isdbt_cli.specs.declared.fault.Outcome.TheVariants.{Done, Fault}
-use Rattle.isdbt_cli.specs.declared.fault.RunFault.TheVariants.{Usage, BadSync, Truncated, HeadMisplaced, NoHead, WrongCount, BadTmcc, Unannounced, NotPartial, OpenFault, ReadFault, WriteFault, TooLong, NoMemory}
+use Rattle.isdbt_cli.specs.declared.fault.RunFault.{RunFault}
+use Rattle.isdbt_cli.specs.declared.fault.RunFault.TheVariants.{Usage, OpenFault, TooLong, NoMemory}
+use Rattle.isdbt_cli.specs.Faults.{run_fault_of, run_fault_of_code, run_fault_of_receive}
 use Rattle.isdbt_cli.specs.FrameLimit.{frame_limit}
-use Rattle.isdbt_cli.specs.CodeRun.{CodeAnswer, CodeCause, CodeSeats}
-use Rattle.isdbt_cli.specs.ReceiveRun.{ReceiveAnswer, ReceiveCause}
 use Rattle.isdbt_cli.specs.CommandLines.{Word, Command, remux, code, receive, Spells, IsFaultAt}
 
 -- ---- inputs
 
--- the names of the layers' inputs, where they are given
+-- the name of the input that a command opens at each seat, if it opens one
 abbrev pub Names : Type 0
-Names = Layer → Option Word
+Names = Seat → Option Word
 
-abbrev pub names_of : Word → Option Word → Option Word → Names
-names_of a b c layers.A = Some a
-names_of a b c layers.B = b
-names_of a b c layers.C = c
+abbrev pub layer_names : Word → Option Word → Option Word → Names
+layer_names a b c A = Some a
+layer_names a b c B = b
+layer_names a b c C = c
+layer_names a b c In = None
 
--- the named inputs hold these bytes, and a layer without a name has none
+abbrev pub lone_name : Word → Names
+lone_name name A = None
+lone_name name B = None
+lone_name name C = None
+lone_name name In = Some name
+
+abbrev pub names_of : Command → Names
+names_of (remux p a b c) = layer_names a b c
+names_of (code p name) = lone_name name
+names_of (receive mode guard name) = lone_name name
+
+-- the named inputs of the layers hold these bytes, and a layer without a name has none
 pub record Hold (holds : Word → Option (List ℕ)) (name : Names) (input : Layer → List ℕ) : Type 0 where
-  pub named : (x : Layer) (n : Word) → name x ≡ Some n → holds n ≡ Some (input x)
-  pub others : (x : Layer) → name x ≡ None → input x ≡ []
+  pub named : (x : Layer) (n : Word) → name (seat_of x) ≡ Some n → holds n ≡ Some (input x)
+  pub others : (x : Layer) → name (seat_of x) ≡ None → input x ≡ []
 
 -- ---- seats
 
--- each layer with a name has its seat open, and each without one has not
+-- each seat with a name is open, and each without one is not
 pub record AreSeated (name : Names) (is_open : Seat → Bool) : Type 0 where
-  pub named : (x : Layer) (n : Word) → name x ≡ Some n → is_open (seat_of x) ≡ true
-  pub others : (x : Layer) → name x ≡ None → is_open (seat_of x) ≡ false
+  pub named : (seat : Seat) (n : Word) → name seat ≡ Some n → is_open seat ≡ true
+  pub others : (seat : Seat) → name seat ≡ None → is_open seat ≡ false
 
 -- the inputs are opened, each with what its name holds
 pub record AreOpened (name : Names) (holds : Word → Option (List ℕ)) (left : Seat → Option (List ℕ)) (is_open : Seat → Bool) : Type 0 where
   pub seats : AreSeated name is_open
-  pub content : (x : Layer) (n : Word) → name x ≡ Some n → left (seat_of x) ≡ holds n
+  pub content : (seat : Seat) (n : Word) → name seat ≡ Some n → left seat ≡ holds n
 
--- the named inputs before this seat are opened, and it and those behind it are not
+-- seats are opened in this order
+abbrev pub turn_of : Seat → ℕ
+turn_of A = 0
+turn_of B = 1
+turn_of C = 2
+turn_of In = 3
+
+-- this seat has a name and was not opened, and those behind it neither; the named ones before it were
 pub record OpenStopped (name : Names) (is_open : Seat → Bool) (seat : Seat) : Type 0 where
-  pub layer : Layer
-  pub seat_is : seat ≡ seat_of layer
-  pub earlier : (x : Layer) (n : Word) → name x ≡ Some n → place_of x < place_of layer → is_open (seat_of x) ≡ true
-  pub later : (x : Layer) → place_of layer ≤ place_of x → is_open (seat_of x) ≡ false
+  pub word : Word
+  pub name_is : name seat ≡ Some word
+  pub earlier : (other : Seat) (n : Word) → name other ≡ Some n → turn_of other < turn_of seat → is_open other ≡ true
+  pub later : (other : Seat) → turn_of seat ≤ turn_of other → is_open other ≡ false
+  pub others : (other : Seat) → name other ≡ None → is_open other ≡ false
 
 -- which seats are open after each answer to a command
 abbrev pub SeatsAfter : Names → (Seat → Bool) → Outcome → Type 0
 SeatsAfter name is_open (Fault (OpenFault seat)) = OpenStopped name is_open seat
 SeatsAfter name is_open outcome = AreSeated name is_open
 
-abbrev pub SeatsOf : Command → (Seat → Bool) → Outcome → Type 0
-SeatsOf (remux p a b c) is_open outcome = SeatsAfter (names_of a b c) is_open outcome
-SeatsOf (code p name) is_open outcome = CodeSeats is_open outcome
-SeatsOf (receive mode guard name) is_open outcome = CodeSeats is_open outcome
-
 -- ---- answers
 
--- what each answer to a command says, by its plan and inputs, what was written before and after, and what the seats have left
-abbrev pub RunAnswer : Schedule → (Layer → List ℕ) → Option (List ℕ) → Option (List ℕ) → (Seat → Option (List ℕ)) → Outcome → Type 0
-RunAnswer p input before after left (Done m) = Finished p input frame_limit m before after left
-RunAnswer p input before after left (Fault (Usage word)) = ⊥
-RunAnswer p input before after left (Fault (BadSync seat packet)) = Refused p input frame_limit (core.BadSync seat packet) before after
-RunAnswer p input before after left (Fault (Truncated seat over)) = Refused p input frame_limit (core.Truncated seat over) before after
-RunAnswer p input before after left (Fault (HeadMisplaced frame slot)) = ⊥
-RunAnswer p input before after left (Fault NoHead) = ⊥
-RunAnswer p input before after left (Fault (WrongCount frame layer found)) = ⊥
-RunAnswer p input before after left (Fault (BadTmcc frame reason)) = ⊥
-RunAnswer p input before after left (Fault (Unannounced frame)) = ⊥
-RunAnswer p input before after left (Fault (NotPartial frame)) = ⊥
-RunAnswer p input before after left (Fault (OpenFault seat)) = after ≡ before
-RunAnswer p input before after left (Fault (ReadFault seat)) = ReadFailed p input frame_limit before after left seat
-RunAnswer p input before after left (Fault WriteFault) = WriteFailed p input frame_limit before after left
-RunAnswer p input before after left (Fault TooLong) = Refused p input frame_limit core.TooLong before after
-RunAnswer p input before after left (Fault NoMemory) = (after ≡ before) × Tells p left input
+-- the outcome of an engine's answer
+abbrev pub outcome_of : {F : Type 0} → (F → RunFault) → Result ℕ F → Outcome
+outcome_of fault_of (Ok m) = Done m
+outcome_of fault_of (Err fault) = Fault (fault_of fault)
 
--- what an answer to a command says, whatever its inputs hold
+-- a command ended so: an input couldn't be opened, of which this is said, or its engine gave an answer, of which that is said
+abbrev pub EndsSo : {F : Type 0} → (F → RunFault) → (Seat → Type 0) → (Result ℕ F → Type 0) → Outcome → Type 0
+EndsSo {F} fault_of unopened answered outcome = ((seat : Seat) × (outcome ≡ Fault (OpenFault seat)) × unopened seat) ⊎ ((r : Result ℕ F) × (outcome ≡ outcome_of fault_of r) × answered r)
+
+-- what an answer to a command says, whatever its inputs hold, by what was written before and after and by what the seats have left: what its engine's answer says
 abbrev pub AnswerOf : Command → (Word → Option (List ℕ)) → Option (List ℕ) → Option (List ℕ) → (Seat → Option (List ℕ)) → Outcome → Type 0
-AnswerOf (remux p a b c) holds before after left outcome = (input : Layer → List ℕ) → Hold holds (names_of a b c) input → RunAnswer p input before after left outcome
-AnswerOf (code p name) holds before after left outcome = (input : List ℕ) → holds name ≡ Some input → CodeAnswer p input before after (left seats.In) outcome
-AnswerOf (receive mode guard name) holds before after left outcome = (stream : List ℕ) → holds name ≡ Some stream → ReceiveAnswer mode guard stream before after (left seats.In) outcome
+AnswerOf (remux p a b c) holds before after left outcome = (input : Layer → List ℕ) → Hold holds (layer_names a b c) input
+    → EndsSo run_fault_of (λ seat. after ≡ before) (RemuxAnswer p input frame_limit before after left) outcome
+AnswerOf (code p name) holds before after left outcome = (input : List ℕ) → holds name ≡ Some input
+    → EndsSo run_fault_of_code (λ seat. after ≡ before) (LoneAnswer code_kind (code_command p input frame_limit) before after (left In)) outcome
+AnswerOf (receive mode guard name) holds before after left outcome = (stream : List ℕ) → holds name ≡ Some stream
+    → EndsSo run_fault_of_receive (λ seat. after ≡ before) (LoneAnswer receive_kind (receive_command (first_version mode guard stream) false stream frame_limit) before after (left In)) outcome
 
 -- ---- causes
 
--- a count rose of opening a named input at its layer's seat
-pub record OpenFailed (name : Names) (shelf shelf' : Cause → ℕ) (seat : Seat) : Type 0 where
-  pub layer : Layer
+-- an input couldn't be opened: the count of this seat and its name rose, and nothing failed to be written
+pub record OpenFailed (name : Names) (shelf shelf' : Cause → ℕ) (sink sink' : ℕ) (seat : Seat) : Type 0 where
   pub word : Word
-  pub name_is : name layer ≡ Some word
-  pub seat_is : seat ≡ seat_of layer
+  pub name_is : name seat ≡ Some word
   pub rose : Rose (shelf (Opening seat word)) (shelf' (Opening seat word))
+  pub kept : sink' ≡ sink
 
--- when each answer to a command may come, by its plan and the names of its inputs
-abbrev pub CommandCause : Schedule → Names → (Cause → ℕ) → (Cause → ℕ) → ℕ → ℕ → Outcome → Type 0
-CommandCause p name shelf shelf' sink sink' (Fault (Usage word)) = ⊥
-CommandCause p name shelf shelf' sink sink' (Fault (HeadMisplaced frame slot)) = ⊥
-CommandCause p name shelf shelf' sink sink' (Fault NoHead) = ⊥
-CommandCause p name shelf shelf' sink sink' (Fault (WrongCount frame layer found)) = ⊥
-CommandCause p name shelf shelf' sink sink' (Fault (BadTmcc frame reason)) = ⊥
-CommandCause p name shelf shelf' sink sink' (Fault (Unannounced frame)) = ⊥
-CommandCause p name shelf shelf' sink sink' (Fault (NotPartial frame)) = ⊥
-CommandCause p name shelf shelf' sink sink' (Fault (OpenFault seat)) = OpenFailed name shelf shelf' seat × (sink' ≡ sink)
-CommandCause p name shelf shelf' sink sink' (Fault (ReadFault seat)) = ((x : Layer) × IsUsed p x × (seat ≡ seat_of x)) × Rose (shelf (Reading seat)) (shelf' (Reading seat)) × (sink' ≡ sink)
-CommandCause p name shelf shelf' sink sink' (Fault WriteFault) = (shelf' ≡ shelf) × Rose sink sink'
-CommandCause p name shelf shelf' sink sink' outcome = (shelf' ≡ shelf) × (sink' ≡ sink)
-
+-- when each answer to a command may come: when its engine's answer may
 abbrev pub CauseOf : Command → (Cause → ℕ) → (Cause → ℕ) → ℕ → ℕ → Outcome → Type 0
-CauseOf (remux p a b c) shelf shelf' sink sink' outcome = CommandCause p (names_of a b c) shelf shelf' sink sink' outcome
-CauseOf (code p name) shelf shelf' sink sink' outcome = CodeCause name shelf shelf' sink sink' outcome
-CauseOf (receive mode guard name) shelf shelf' sink sink' outcome = ReceiveCause name shelf shelf' sink sink' outcome
+CauseOf (remux p a b c) shelf shelf' sink sink' outcome = EndsSo run_fault_of (OpenFailed (layer_names a b c) shelf shelf' sink sink') (RemuxCause p shelf shelf' sink sink') outcome
+CauseOf (code p name) shelf shelf' sink sink' outcome = EndsSo run_fault_of_code (OpenFailed (lone_name name) shelf shelf' sink sink') (LoneCause code_kind shelf shelf' sink sink') outcome
+CauseOf (receive mode guard name) shelf shelf' sink sink' outcome = EndsSo run_fault_of_receive (OpenFailed (lone_name name) shelf shelf' sink sink') (LoneCause receive_kind shelf shelf' sink sink') outcome
+
+-- the words have a fault, and nothing else happened
+pub record IsUsage (words : List Word) (shelf shelf' : Cause → ℕ) (sink sink' : ℕ) (outcome : Outcome) : Type 0 where
+  pub word : ℕ
+  pub answer : outcome ≡ Fault (Usage word)
+  pub fault : IsFaultAt words word
+  pub shelf_kept : shelf' ≡ shelf
+  pub sink_kept : sink' ≡ sink
 
 -- usage comes where the words have a fault, and each other answer where they are a command and it may come
 abbrev pub RunCause : List Word → (Cause → ℕ) → (Cause → ℕ) → ℕ → ℕ → Outcome → Type 0
-RunCause words shelf shelf' sink sink' (Fault (Usage word)) = IsFaultAt words word × (shelf' ≡ shelf) × (sink' ≡ sink)
-RunCause words shelf shelf' sink sink' outcome = (c : Command) × Spells words c × CauseOf c shelf shelf' sink sink' outcome
+RunCause words shelf shelf' sink sink' outcome = IsUsage words shelf shelf' sink sink' outcome ⊎ ((c : Command) × Spells words c × CauseOf c shelf shelf' sink sink' outcome)
+
+-- no count of the outside rose of the named inputs and of the output
+pub record NothingRose (name : Names) (shelf shelf' : Cause → ℕ) (sink sink' : ℕ) : Type 0 where
+  pub opened : (seat : Seat) (n : Word) → name seat ≡ Some n → Rose (shelf (Opening seat n)) (shelf' (Opening seat n)) → ⊥
+  pub read : (seat : Seat) (n : Word) → name seat ≡ Some n → Rose (shelf (Reading seat)) (shelf' (Reading seat)) → ⊥
+  pub wrote : Rose sink sink' → ⊥
+
+-- ---- no refusal
+
+-- the inputs are told, and no frame of the command is refused
+abbrev pub RefusesNone : Command → (Word → Option (List ℕ)) → Type 0
+RefusesNone (remux p a b c) holds = (input : Layer → List ℕ) × Hold holds (layer_names a b c) input × ((f : ℕ) → refusal p input frame_limit f ≡ None)
+RefusesNone (code p name) holds = (input : List ℕ) × (holds name ≡ Some input) × ((f : ℕ) → code_refusal p input frame_limit f ≡ None)
+RefusesNone (receive mode guard name) holds = (stream : List ℕ) × (holds name ≡ Some stream) × ((f : ℕ) → receive_refusal (first_version mode guard stream) false frame_limit f ≡ None)
 
 -- the answers where no frame is refused and nothing of the outside failed
 abbrev pub IsDoneOrNoMemory : Outcome → Type 0
@@ -135,9 +155,3 @@ IsFree (Done m) = Unit {0}
 IsFree (Fault TooLong) = Unit {0}
 IsFree (Fault NoMemory) = Unit {0}
 IsFree (Fault fault) = ⊥
-
--- no count of the outside rose
-pub record NothingRose (name : Names) (shelf shelf' : Cause → ℕ) (sink sink' : ℕ) : Type 0 where
-  pub opened : (x : Layer) (n : Word) → name x ≡ Some n → Rose (shelf (Opening (seat_of x) n)) (shelf' (Opening (seat_of x) n)) → ⊥
-  pub read : (x : Layer) → Rose (shelf (Reading (seat_of x))) (shelf' (Reading (seat_of x))) → ⊥
-  pub wrote : Rose sink sink' → ⊥

@@ -4,7 +4,7 @@ ghost use Rattle.std.specs.Prelude.{◌≡◌, ℕ, List, true, false, Some, Non
 ghost use Rattle.edge_io.specs.declared.shelf.Seat.{Seat as Place};
 ghost use Rattle.edge_io.specs.Seats.{OthersKeep};
 ghost use Rattle.edge_io.specs.Causes.{Rose, Opening};
-ghost use Rattle.isdbt_cli.specs.Run.{names_of, AreOpened, OpenFailed, OpenStopped};
+ghost use Rattle.isdbt_cli.specs.Run.{layer_names, AreOpened, OpenStopped};
 
 use edge_io::{Failed, Seat, Shelf};
 
@@ -36,10 +36,11 @@ pub fn open_inputs<H: Shelf>(
     shelf: &mut H,
 ) -> Result<(), Seat>
     requires { (seat : Place) → H.is_open shelf.old seat ≡ false }
-    ensures opened { OnOk result (AreOpened (names_of a.now (option_map (λ x. x.now) b.entry) (option_map (λ x. x.now) c.entry)) (H.holds shelf.old) (H.left shelf.new) (H.is_open shelf.new)) }
+    ensures opened { OnOk result (AreOpened (layer_names a.now (option_map (λ x. x.now) b.entry) (option_map (λ x. x.now) c.entry)) (H.holds shelf.old) (H.left shelf.new) (H.is_open shelf.new)) }
     ensures kept { OnOk result (H.faults shelf.new ≡ H.faults shelf.old) }
-    ensures failed { IfErr result (λ seat. OpenFailed (names_of a.now (option_map (λ x. x.now) b.entry) (option_map (λ x. x.now) c.entry)) (H.faults shelf.old) (H.faults shelf.new) seat) }
-    ensures stopped { IfErr result (λ seat. OpenStopped (names_of a.now (option_map (λ x. x.now) b.entry) (option_map (λ x. x.now) c.entry)) (H.is_open shelf.new) seat) }
+    ensures failed { IfErr result (λ seat. (n : List ℕ) × (layer_names a.now (option_map (λ x. x.now) b.entry) (option_map (λ x. x.now) c.entry) seat ≡ Some n)
+        × Rose (H.faults shelf.old (Opening seat n)) (H.faults shelf.new (Opening seat n))) }
+    ensures stopped { IfErr result (λ seat. OpenStopped (layer_names a.now (option_map (λ x. x.now) b.entry) (option_map (λ x. x.now) c.entry)) (H.is_open shelf.new) seat) }
 {
     match open_if_named(Seat::A, Some(a), shelf) {
         Ok(()) => {}

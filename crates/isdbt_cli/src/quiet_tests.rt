@@ -1,15 +1,10 @@
 //! Runs over the quiet shelf and sink, of which nothing fails.
 
-ghost use Rattle.std.specs.Prelude.{◌≡◌, ℕ, List, false, None, Some};
-ghost use Rattle.std.specs.declared.option.Option.{Option as Maybe};
-ghost use Rattle.isdbt_base.specs.declared.kinds.Layer.{Layer as Which};
-ghost use Rattle.isdbt_base.specs.Plans.{Schedule};
+ghost use Rattle.std.specs.Prelude.{◌≡◌, false, Some};
 ghost use Rattle.edge_io.specs.declared.shelf.Seat.{Seat as Place};
 ghost use Rattle.edge_io.specs.QuietShelf.{content_of, is_seat_open};
-ghost use Rattle.remux_core.specs.Refusals.{refusal};
-ghost use Rattle.isdbt_cli.specs.CommandLines.{Word, remux, Spells};
-ghost use Rattle.isdbt_cli.specs.FrameLimit.{frame_limit};
-ghost use Rattle.isdbt_cli.specs.Run.{names_of, Hold, IsDoneOrNoMemory};
+ghost use Rattle.isdbt_cli.specs.CommandLines.{Command, Spells};
+ghost use Rattle.isdbt_cli.specs.Run.{RefusesNone, IsDoneOrNoMemory};
 
 use crate::fault::Outcome;
 use crate::run::run;
@@ -22,9 +17,7 @@ use std::test::Fail;
 /// Runs words over the quiet forms. Where no frame is refused, all frames are written or memory is wanting.
 fn run_quietly(alloc: Global, words: &Words, shelf: &mut QuietShelf, out: &mut QuietSink) -> Outcome
     requires { (seat : Place) → is_seat_open shelf.old seat ≡ false }
-    ensures { (p : Schedule) (a : Word) (b c : Maybe Word) (input : Which → List ℕ) → Spells words.now (remux p a b c)
-        → Hold (λ name. Some (content_of shelf.old name)) (names_of a b c) input
-        → ((f : ℕ) → refusal p input frame_limit f ≡ None) → IsDoneOrNoMemory result }
+    ensures { (c : Command) → Spells words.now c → RefusesNone c (λ name. Some (content_of shelf.old name)) → IsDoneOrNoMemory result }
 {
     run(alloc, words, shelf, out, &mut QuietSink::new())
 }

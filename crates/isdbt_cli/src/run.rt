@@ -1,6 +1,6 @@
 //! The top call.
 
-ghost use Rattle.std.specs.Prelude.{◌≡◌, ℕ, ◌≤◌, List, ◌↔◌, false, None, Some, option_map};
+ghost use Rattle.std.specs.Prelude.{◌≡◌, ℕ, ◌≤◌, List, ◌↔◌, false, Some, option_map};
 ghost use Rattle.std.specs.declared.option.Option.{Option as Maybe};
 ghost use Rattle.isdbt_base.specs.declared.kinds.Layer.{Layer as Which};
 ghost use Rattle.isdbt_base.specs.declared.kinds.Mode.{Mode as SomeMode};
@@ -10,21 +10,23 @@ ghost use Rattle.isdbt_base.specs.Frames.{FramePackets};
 ghost use Rattle.isdbt_base.specs.Outcome.{product};
 ghost use Rattle.gf_rs.specs.Codewords.{IsBytes};
 ghost use Rattle.edge_io.specs.declared.shelf.Seat.{Seat as Place};
-ghost use Rattle.remux_core.specs.Parts.{IsGood};
-ghost use Rattle.remux_core.specs.Refusals.{refusal};
 ghost use Rattle.edge_io.specs.declared.shelf.Seat.TheVariants as seats;
-ghost use Rattle.coder_core.specs.CodeRefusals.{code_refusal};
+ghost use Rattle.edge_io.specs.FrameAnswers.{LoneAnswer, LoneCause};
+ghost use Rattle.remux_core.specs.Multiplex.{multiplexed};
+ghost use Rattle.remux_core.specs.Parts.{IsGood};
+ghost use Rattle.remux_core.specs.Answers.{RemuxAnswer, RemuxCause};
 ghost use Rattle.coder_core.specs.SentCells.{frame_cells};
-ghost use Rattle.seg_receiver.specs.Delivered.{HasMode, ArePackets, IsNear};
-ghost use Rattle.seg_receiver.specs.ReceiveRefusals.{receive_refusal};
-ghost use Rattle.isdbt_cli.specs.Chain.{IsChain};
-ghost use Rattle.isdbt_cli.specs.CodeRun.{CodeAnswer, CodeCause, CodeSeats, NothingRoseOf};
-ghost use Rattle.isdbt_cli.specs.ReceiveRun.{ReceiveAnswer, ReceiveCause, IsDelivery};
-ghost use Rattle.isdbt_cli.specs.CommandLines.{Word, remux, code, receive, IsRemux, IsCode, IsCommand, Spells, IsFaultAt};
+ghost use Rattle.coder_core.specs.Answers.{code_kind, code_command};
+ghost use Rattle.seg_receiver.specs.CellStream.{View as SomeView, first_version, AreInRow};
+ghost use Rattle.seg_receiver.specs.Delivered.{SendsIn, ArePackets, IsNear, delivered};
+ghost use Rattle.seg_receiver.specs.ReceiveAnswers.{receive_kind, receive_command};
+ghost use Rattle.isdbt_cli.specs.Chain.{written_stream, IsDoneWith, IsReceivedAs, WroteNear, IsChain};
+ghost use Rattle.isdbt_cli.specs.CommandLines.{Word, Command as SomeCommand, remux, code, receive, IsRemux, IsCode, IsCommand, Spells, IsFaultAt};
+ghost use Rattle.isdbt_cli.specs.Faults.{run_fault_of, run_fault_of_code, run_fault_of_receive};
 ghost use Rattle.isdbt_cli.specs.Lines.{line_of, IsTold};
 ghost use Rattle.isdbt_cli.specs.Parsing.{command_of};
 ghost use Rattle.isdbt_cli.specs.FrameLimit.{frame_limit};
-ghost use Rattle.isdbt_cli.specs.Run.{names_of, Hold, SeatsAfter, SeatsOf, RunAnswer, AnswerOf, CommandCause, CauseOf, RunCause, NothingRose, IsDoneOrNoMemory, IsFree};
+ghost use Rattle.isdbt_cli.specs.Run.{layer_names, lone_name, names_of, Hold, SeatsAfter, EndsSo, AnswerOf, OpenFailed, CauseOf, RunCause, NothingRose, RefusesNone, IsDoneOrNoMemory, IsFree};
 
 use crate::command::Command;
 use crate::fault::{Outcome, RunFault};
@@ -53,10 +55,12 @@ fn run_remux<H: Shelf, K: Sink>(
 ) -> Outcome
     requires accepted { IsRemux plan.now a.now (option_map (λ x. x.now) b) (option_map (λ x. x.now) c) }
     requires closed { (seat : Place) → H.is_open shelf.old seat ≡ false }
-    ensures answer { (input : Which → List ℕ) → Hold (H.holds shelf.old) (names_of a.now (option_map (λ x. x.now) b.entry) (option_map (λ x. x.now) c.entry)) input
-        → RunAnswer plan.now input (K.written out.old) (K.written out.new) (H.left shelf.new) result }
-    ensures cause { CommandCause plan.now (names_of a.now (option_map (λ x. x.now) b.entry) (option_map (λ x. x.now) c.entry)) (H.faults shelf.old) (H.faults shelf.new) (K.faults out.old) (K.faults out.new) result }
-    ensures seats { SeatsAfter (names_of a.now (option_map (λ x. x.now) b.entry) (option_map (λ x. x.now) c.entry)) (H.is_open shelf.new) result }
+    ensures answer { (input : Which → List ℕ) → Hold (H.holds shelf.old) (layer_names a.now (option_map (λ x. x.now) b.entry) (option_map (λ x. x.now) c.entry)) input
+        → EndsSo run_fault_of (λ seat. K.written out.new ≡ K.written out.old) (RemuxAnswer plan.now input frame_limit (K.written out.old) (K.written out.new) (H.left shelf.new)) result }
+    ensures cause { EndsSo run_fault_of (OpenFailed (layer_names a.now (option_map (λ x. x.now) b.entry) (option_map (λ x. x.now) c.entry)) (H.faults shelf.old) (H.faults shelf.new) (K.faults out.old) (K.faults out.new))
+        (RemuxCause plan.now (H.faults shelf.old) (H.faults shelf.new) (K.faults out.old) (K.faults out.new)) result }
+    ensures seats { SeatsAfter (layer_names a.now (option_map (λ x. x.now) b.entry) (option_map (λ x. x.now) c.entry)) (H.is_open shelf.new) result }
+    ensures unopened { (seat : Place) → result ≡ Outcome.Fault (RunFault.OpenFault seat) → out.new ≡ out.old }
     ensures room { K.room out.new ≡ K.room out.old }
 {
     match open_inputs(a, b, c, shelf) {
@@ -79,9 +83,12 @@ fn run_code<H: Shelf, K: Sink>(
 ) -> Outcome
     requires accepted { IsCode plan.now name.now }
     requires closed { (seat : Place) → H.is_open shelf.old seat ≡ false }
-    ensures answer { (input : List ℕ) → H.holds shelf.old name.now ≡ Some input → CodeAnswer plan.now input (K.written out.old) (K.written out.new) (H.left shelf.new seats.In) result }
-    ensures cause { CodeCause name.now (H.faults shelf.old) (H.faults shelf.new) (K.faults out.old) (K.faults out.new) result }
-    ensures seats { CodeSeats (H.is_open shelf.new) result }
+    ensures answer { (input : List ℕ) → H.holds shelf.old name.now ≡ Some input
+        → EndsSo run_fault_of_code (λ seat. K.written out.new ≡ K.written out.old) (LoneAnswer code_kind (code_command plan.now input frame_limit) (K.written out.old) (K.written out.new) (H.left shelf.new seats.In)) result }
+    ensures cause { EndsSo run_fault_of_code (OpenFailed (lone_name name.now) (H.faults shelf.old) (H.faults shelf.new) (K.faults out.old) (K.faults out.new))
+        (LoneCause code_kind (H.faults shelf.old) (H.faults shelf.new) (K.faults out.old) (K.faults out.new)) result }
+    ensures seats { SeatsAfter (lone_name name.now) (H.is_open shelf.new) result }
+    ensures unopened { (seat : Place) → result ≡ Outcome.Fault (RunFault.OpenFault seat) → out.new ≡ out.old }
     ensures room { K.room out.new ≡ K.room out.old }
 {
     match shelf.open(Seat::In, name) {
@@ -104,9 +111,12 @@ fn run_receive<H: Shelf, K: Sink>(
     out: &mut K,
 ) -> Outcome
     requires { (seat : Place) → H.is_open shelf.old seat ≡ false }
-    ensures answer { (stream : List ℕ) → H.holds shelf.old name.now ≡ Some stream → ReceiveAnswer mode guard stream (K.written out.old) (K.written out.new) (H.left shelf.new seats.In) result }
-    ensures cause { ReceiveCause name.now (H.faults shelf.old) (H.faults shelf.new) (K.faults out.old) (K.faults out.new) result }
-    ensures seats { CodeSeats (H.is_open shelf.new) result }
+    ensures answer { (stream : List ℕ) → H.holds shelf.old name.now ≡ Some stream
+        → EndsSo run_fault_of_receive (λ seat. K.written out.new ≡ K.written out.old) (LoneAnswer receive_kind (receive_command (first_version mode guard stream) false stream frame_limit) (K.written out.old) (K.written out.new) (H.left shelf.new seats.In)) result }
+    ensures cause { EndsSo run_fault_of_receive (OpenFailed (lone_name name.now) (H.faults shelf.old) (H.faults shelf.new) (K.faults out.old) (K.faults out.new))
+        (LoneCause receive_kind (H.faults shelf.old) (H.faults shelf.new) (K.faults out.old) (K.faults out.new)) result }
+    ensures seats { SeatsAfter (lone_name name.now) (H.is_open shelf.new) result }
+    ensures unopened { (seat : Place) → result ≡ Outcome.Fault (RunFault.OpenFault seat) → out.new ≡ out.old }
     ensures room { K.room out.new ≡ K.room out.old }
 {
     match shelf.open(Seat::In, name) {
@@ -130,7 +140,8 @@ fn run_command<H: Shelf, K: Sink>(
     requires closed { (seat : Place) → H.is_open shelf.old seat ≡ false }
     ensures answer { AnswerOf (command_of command.entry) (H.holds shelf.old) (K.written out.old) (K.written out.new) (H.left shelf.new) result }
     ensures cause { CauseOf (command_of command.entry) (H.faults shelf.old) (H.faults shelf.new) (K.faults out.old) (K.faults out.new) result }
-    ensures seats { SeatsOf (command_of command.entry) (H.is_open shelf.new) result }
+    ensures seats { SeatsAfter (names_of (command_of command.entry)) (H.is_open shelf.new) result }
+    ensures unopened { (seat : Place) → result ≡ Outcome.Fault (RunFault.OpenFault seat) → out.new ≡ out.old }
     ensures room { K.room out.new ≡ K.room out.old }
 {
     match command {
@@ -158,72 +169,61 @@ pub fn run<H: Shelf, K: Sink, E: Sink>(
     // Nothing but a fault's line, or a front part of it where a write of it failed, is written to `err`.
     ensures line { IsTold (line_of result) (E.written err.old) (E.written err.new) (E.faults err.old) (E.faults err.new) }
 
-    // What the answer says of the inputs and of what was written.
-    ensures answer { (p : Schedule) (a : Word) (b c : Maybe Word) (input : Which → List ℕ) → Spells words.now (remux p a b c)
-        → Hold (H.holds shelf.old) (names_of a b c) input
-        → RunAnswer p input (K.written out.old) (K.written out.new) (H.left shelf.new) result }
+    // Words are of one command at most.
+    ensures one_command { (c d : SomeCommand) → Spells words.now c → Spells words.now d → c ≡ d }
 
-    // Every named input is opened, and no other seat; at one that can't be opened it stops.
-    ensures seats { (p : Schedule) (a : Word) (b c : Maybe Word) → Spells words.now (remux p a b c)
-        → SeatsAfter (names_of a b c) (H.is_open shelf.new) result }
+    // What the answer to a command says of its inputs and of what was written: what its engine's answer says.
+    ensures answer { (c : SomeCommand) → Spells words.now c → AnswerOf c (H.holds shelf.old) (K.written out.old) (K.written out.new) (H.left shelf.new) result }
+
+    // Every named input is opened, and no other seat; at one that can't be opened it stops, and nothing is written.
+    ensures seats { (c : SomeCommand) → Spells words.now c → SeatsAfter (names_of c) (H.is_open shelf.new) result }
+    ensures unopened { (seat : Place) → result ≡ Outcome.Fault (RunFault.OpenFault seat) → out.new ≡ out.old }
 
     // A fault of the outside is answered only where its count rose, and another answer only where none rose.
     ensures cause { RunCause words.now (H.faults shelf.old) (H.faults shelf.new) (K.faults out.old) (K.faults out.new) result }
 
     // No frame refused and no fault of the outside: all frames, or no memory.
-    ensures complete { (p : Schedule) (a : Word) (b c : Maybe Word) (input : Which → List ℕ) → Spells words.now (remux p a b c)
-        → Hold (H.holds shelf.old) (names_of a b c) input
-        → NothingRose (names_of a b c) (H.faults shelf.old) (H.faults shelf.new) (K.faults out.old) (K.faults out.new)
-        → ((f : ℕ) → refusal p input frame_limit f ≡ None) → IsDoneOrNoMemory result }
+    ensures complete { (c : SomeCommand) → Spells words.now c → NothingRose (names_of c) (H.faults shelf.old) (H.faults shelf.new) (K.faults out.old) (K.faults out.new)
+        → RefusesNone c (H.holds shelf.old) → IsDoneOrNoMemory result }
 
     // Good packets and no fault of the outside: all frames, or too many, or no memory.
     ensures good_packets { (p : Schedule) (a : Word) (b c : Maybe Word) (input : Which → List ℕ) → Spells words.now (remux p a b c)
-        → Hold (H.holds shelf.old) (names_of a b c) input
-        → NothingRose (names_of a b c) (H.faults shelf.old) (H.faults shelf.new) (K.faults out.old) (K.faults out.new)
+        → Hold (H.holds shelf.old) (layer_names a b c) input
+        → NothingRose (layer_names a b c) (H.faults shelf.old) (H.faults shelf.new) (K.faults out.old) (K.faults out.new)
         → ((x : Which) → IsGood (input x)) → IsFree result }
 
-    // What the answer to a coding says of the input and of what was written: with Done, the cells of the plan and of the
-    // frames of the input.
-    ensures code_answer { (p : Schedule) (name : Word) (input : List ℕ) → Spells words.now (code p name) → H.holds shelf.old name ≡ Some input
-        → CodeAnswer p input (K.written out.old) (K.written out.new) (H.left shelf.new seats.In) result }
+    // A coding of what a remultiplexing writes of good inputs, and no fault of the outside: the cells of the plan and of the
+    // multiplexed packets, or no memory.
+    ensures code_of_remux { (p : Schedule) (name : Word) (input : Which → List ℕ) (count : ℕ) → Spells words.now (code p name)
+        → H.holds shelf.old name ≡ Some (written_stream p input count) → ((x : Which) → IsGood (input x)) → ((x : Which) → IsBytes (input x)) → count ≤ frame_limit
+        → NothingRose (lone_name name) (H.faults shelf.old) (H.faults shelf.new) (K.faults out.old) (K.faults out.new)
+        → IsDoneWith count (product (frame_cells p (multiplexed p input)) count) (K.written out.old) (K.written out.new) result }
 
-    // Its input is opened, and no other seat.
-    ensures code_seats { (p : Schedule) (name : Word) → Spells words.now (code p name) → CodeSeats (H.is_open shelf.new) result }
-
-    // No frame refused and no fault of the outside: all frames, or no memory.
-    ensures code_complete { (p : Schedule) (name : Word) (input : List ℕ) → Spells words.now (code p name) → H.holds shelf.old name ≡ Some input
-        → NothingRoseOf name (H.faults shelf.old) (H.faults shelf.new) (K.faults out.old) (K.faults out.new)
-        → ((f : ℕ) → code_refusal p input frame_limit f ≡ None) → IsDoneOrNoMemory result }
-
-    // What the answer to a receiving says of the stream of cells and of what was written: with Done, what a receiver of this
-    // mode and guard interval gives out for each of its frames, whatever the cells are.
-    ensures receive_answer { (mode : SomeMode) (guard : SomeGuard) (name : Word) (stream : List ℕ) → Spells words.now (receive mode guard name) → H.holds shelf.old name ≡ Some stream
-        → ReceiveAnswer mode guard stream (K.written out.old) (K.written out.new) (H.left shelf.new seats.In) result }
-
-    // Its input is opened, and no other seat.
-    ensures receive_seats { (mode : SomeMode) (guard : SomeGuard) (name : Word) → Spells words.now (receive mode guard name) → CodeSeats (H.is_open shelf.new) result }
-
-    // No frame refused and no fault of the outside: all frames, or no memory.
-    ensures receive_complete { (mode : SomeMode) (guard : SomeGuard) (name : Word) (stream : List ℕ) → Spells words.now (receive mode guard name) → H.holds shelf.old name ≡ Some stream
-        → NothingRoseOf name (H.faults shelf.old) (H.faults shelf.new) (K.faults out.old) (K.faults out.new)
-        → ((f : ℕ) → receive_refusal mode false stream frame_limit f ≡ None) → IsDoneOrNoMemory result }
+    // A coding that is done has written cells that are near the plan and packets of bytes, those found in the input.
+    ensures code_near { (p : Schedule) (name : Word) (input : List ℕ) (m : ℕ) → Spells words.now (code p name) → H.holds shelf.old name ≡ Some input → IsBytes input
+        → result ≡ Outcome.Done m → WroteNear p m (K.written out.old) (K.written out.new) }
 
     // Cells that are near those of a plan and no fault of the outside: the packets of the plan's frames, each put off by its
     // layer's delay, and no others, or no memory.
     ensures receive_near { (p : Schedule) (frames : FramePackets) (count : ℕ) (mode : SomeMode) (guard : SomeGuard) (name : Word) (stream : List ℕ) → Spells words.now (receive mode guard name)
-        → H.holds shelf.old name ≡ Some stream → IsPlan p → HasMode mode guard p → ArePackets p frames count → IsNear mode p frames count stream → count ≤ frame_limit
-        → NothingRoseOf name (H.faults shelf.old) (H.faults shelf.new) (K.faults out.old) (K.faults out.new)
-        → IsDelivery p frames count (K.written out.old) (K.written out.new) result }
+        → H.holds shelf.old name ≡ Some stream → IsPlan p → ArePackets p frames count → IsNear (first_version mode guard stream) p frames count → count ≤ frame_limit
+        → NothingRose (lone_name name) (H.faults shelf.old) (H.faults shelf.new) (K.faults out.old) (K.faults out.new)
+        → IsDoneWith count (delivered p frames count) (K.written out.old) (K.written out.new) result }
 
-    // Two facts of the commands, whatever the words are. The cells of a plan, as a coding writes them, are near it.
-    ensures near_cells { (p : Schedule) (frames : FramePackets) (count : ℕ) (mode : SomeMode) (guard : SomeGuard) → IsPlan p → HasMode mode guard p → ArePackets p frames count
-        → IsNear mode p frames count (product (frame_cells p frames) count) }
+    // Three facts of the commands, whatever the words are. A view that is near a plan is received as what is delivered of it:
+    // so after a failed read or write too what was written is a front part of the delivered stream.
+    ensures near_received { (v : SomeView) (p : Schedule) (frames : FramePackets) (count : ℕ) → IsPlan p → AreInRow v count → ArePackets p frames count → IsNear v p frames count
+        → count ≤ frame_limit → IsReceivedAs v p frames count }
+
+    // The cells of a plan, as a coding writes them, are near it.
+    ensures near_cells { (p : Schedule) (frames : FramePackets) (count : ℕ) (mode : SomeMode) (guard : SomeGuard) → IsPlan p → SendsIn mode guard p count → ArePackets p frames count
+        → IsNear (first_version mode guard (product (frame_cells p frames) count)) p frames count }
 
     // And the commands go one behind another, for inputs of whole packets with their sync bytes: a coding refuses nothing of
     // what a remultiplexing writes of them, the cells that it writes are near the plan and the multiplexed packets, so that a
     // receiving delivers these, and each input packet that a frame places is delivered later by its layer's delay.
-    ensures chain { (p : Schedule) (mode : SomeMode) (guard : SomeGuard) (input : Which → List ℕ) (count : ℕ) → IsPlan p → HasMode mode guard p
-        → ((x : Which) → IsGood (input x)) → ((x : Which) → IsBytes (input x)) → count ≤ frame_limit → IsChain p input mode count }
+    ensures chain { (p : Schedule) (mode : SomeMode) (guard : SomeGuard) (input : Which → List ℕ) (count : ℕ) → IsPlan p → SendsIn mode guard p count
+        → ((x : Which) → IsGood (input x)) → ((x : Which) → IsBytes (input x)) → count ≤ frame_limit → IsChain p input mode guard count }
 
     // The rooms of both sinks stay.
     ensures out_room { K.room out.new ≡ K.room out.old }

@@ -1,88 +1,63 @@
+use Rattle.std.proofs.Common.{◌≤◌, arith}
+use Rattle.isdbt_base.specs.Outcome.{product}
+use Rattle.edge_io.specs.declared.shelf.Seat.TheVariants as seats
+use Rattle.coder_core.specs.SentCells.{frame_cells}
+use Rattle.remux_core.specs.Multiplex.{multiplexed}
+use Rattle.seg_receiver.specs.CellStream.{first_version}
+use Rattle.seg_receiver.specs.Delivered.{delivered}
+use Rattle.seg_receiver.proofs.StreamLaws.{in_row}
+use Rattle.isdbt_cli.specs.Chain.{written_stream}
 use Rattle.isdbt_cli.specs.CommandLines.{remux, code, receive}
 use Rattle.isdbt_cli.specs.Parsing.{command_of}
 use Rattle.isdbt_cli.proofs.OnePlace.{no_place, one_command}
-use Rattle.isdbt_cli.proofs.Outcomes.{ok_usage, fault_usage, same_answer, same_seats, ok_complete, ok_good}
-use Rattle.isdbt_cli.proofs.CodeOutcomes.{ok_complete as code_done}
-use Rattle.isdbt_cli.proofs.ReceiveOutcomes.{ok_complete as receive_done, ok_near}
-use Rattle.isdbt_cli.proofs.Chains.{near_cells, chain}
+use Rattle.isdbt_cli.proofs.RunOutcomes.{ok_usage, fault_usage, same_answer, same_cause, same_seats, complete, good, coded, given, coded_done}
+use Rattle.isdbt_cli.proofs.Chains.{near_received, near_cells, chain, sends_alike, wrote_near}
 use Rattle.isdbt_cli.proofs.run.run.Goals as goal
 
 pub returns-in-Ok-clause-usage : goal.returns-in-Ok-clause-usage
 returns-in-Ok-clause-usage g c = λ word. ok_usage _ (command_of c.in-Ok.command) _ _ _ _ c.run_command-outcome.result word c.in-Ok.ensures c.run_command-outcome.ensures.cause
 
+pub returns-in-Ok-clause-one_command : goal.returns-in-Ok-clause-one_command
+returns-in-Ok-clause-one_command g c = λ a b s t. one_command c.args.words.now a b s t
+
 pub returns-in-Ok-clause-answer : goal.returns-in-Ok-clause-answer
-returns-in-Ok-clause-answer g c = λ p a b n input spelled hold.
-    same_answer (command_of c.in-Ok.command) (remux p a b n) _ _ _ _ _ (one_command c.args.words.now (command_of c.in-Ok.command) (remux p a b n) c.in-Ok.ensures spelled) c.run_command-outcome.ensures.answer input hold
-
-pub returns-in-Ok-clause-complete : goal.returns-in-Ok-clause-complete
-returns-in-Ok-clause-complete g c = λ p a b n input spelled hold none good.
-    let same = one_command c.args.words.now (command_of c.in-Ok.command) (remux p a b n) c.in-Ok.ensures spelled in
-    ok_complete (command_of c.in-Ok.command) p a b n input _ _ _ _ _ _ _ c.run_command-outcome.result same (same_answer (command_of c.in-Ok.command) (remux p a b n) _ _ _ _ _ same c.run_command-outcome.ensures.answer input hold) c.run_command-outcome.ensures.cause none good
-
-pub returns-in-Ok-clause-good_packets : goal.returns-in-Ok-clause-good_packets
-returns-in-Ok-clause-good_packets g c = λ p a b n input spelled hold none good.
-    let same = one_command c.args.words.now (command_of c.in-Ok.command) (remux p a b n) c.in-Ok.ensures spelled in
-    ok_good (command_of c.in-Ok.command) p a b n input _ _ _ _ _ _ _ c.run_command-outcome.result same (same_answer (command_of c.in-Ok.command) (remux p a b n) _ _ _ _ _ same c.run_command-outcome.ensures.answer input hold) c.run_command-outcome.ensures.cause none good
+returns-in-Ok-clause-answer g c = λ d spelled. same_answer (command_of c.in-Ok.command) d _ _ _ _ _ (one_command c.args.words.now (command_of c.in-Ok.command) d c.in-Ok.ensures spelled) c.run_command-outcome.ensures.answer
 
 pub returns-in-Ok-clause-seats : goal.returns-in-Ok-clause-seats
-returns-in-Ok-clause-seats g c = λ p a b n spelled.
-    same_seats (command_of c.in-Ok.command) (remux p a b n) _ _ (one_command c.args.words.now (command_of c.in-Ok.command) (remux p a b n) c.in-Ok.ensures spelled) c.run_command-outcome.ensures.seats
+returns-in-Ok-clause-seats g c = λ d spelled. same_seats (command_of c.in-Ok.command) d _ _ (one_command c.args.words.now (command_of c.in-Ok.command) d c.in-Ok.ensures spelled) c.run_command-outcome.ensures.seats
 
-pub returns-in-Err-clause-usage : goal.returns-in-Err-clause-usage
-returns-in-Err-clause-usage g c = λ word. fault_usage _ _ word c.in-Err.ensures
+pub returns-in-Ok-clause-complete : goal.returns-in-Ok-clause-complete
+returns-in-Ok-clause-complete g c = λ d spelled none free.
+    let same = one_command c.args.words.now (command_of c.in-Ok.command) d c.in-Ok.ensures spelled in
+    complete (g.H.Shelf.holds c.args.shelf.now) _ _ _ _ _ _ _ c.run_command-outcome.result d spelled.command (same_answer (command_of c.in-Ok.command) d _ _ _ _ _ same c.run_command-outcome.ensures.answer) (same_cause (command_of c.in-Ok.command) d _ _ _ _ _ same c.run_command-outcome.ensures.cause) none free
 
-pub returns-in-Err-clause-answer : goal.returns-in-Err-clause-answer
-returns-in-Err-clause-answer g c = λ p a b n input spelled hold. absurd (no_place _ (remux p a b n) _ spelled c.in-Err.ensures)
+pub returns-in-Ok-clause-good_packets : goal.returns-in-Ok-clause-good_packets
+returns-in-Ok-clause-good_packets g c = λ p a b n input spelled hold none fine.
+    let same = one_command c.args.words.now (command_of c.in-Ok.command) (remux p a b n) c.in-Ok.ensures spelled in
+    good (g.H.Shelf.holds c.args.shelf.now) _ _ _ _ _ _ _ c.run_command-outcome.result p a b n input spelled.command (same_answer (command_of c.in-Ok.command) (remux p a b n) _ _ _ _ _ same c.run_command-outcome.ensures.answer input hold) (same_cause (command_of c.in-Ok.command) (remux p a b n) _ _ _ _ _ same c.run_command-outcome.ensures.cause) none fine
 
-pub returns-in-Err-clause-complete : goal.returns-in-Err-clause-complete
-returns-in-Err-clause-complete g c = λ p a b n input spelled hold none good. absurd (no_place _ (remux p a b n) _ spelled c.in-Err.ensures)
-
-pub returns-in-Err-clause-good_packets : goal.returns-in-Err-clause-good_packets
-returns-in-Err-clause-good_packets g c = λ p a b n input spelled hold none good. absurd (no_place _ (remux p a b n) _ spelled c.in-Err.ensures)
-
-pub returns-in-Err-clause-seats : goal.returns-in-Err-clause-seats
-returns-in-Err-clause-seats g c = λ p a b n spelled. absurd (no_place _ (remux p a b n) _ spelled c.in-Err.ensures)
-
-pub returns-in-Ok-clause-code_answer : goal.returns-in-Ok-clause-code_answer
-returns-in-Ok-clause-code_answer g c = λ p name input spelled hold.
-    same_answer (command_of c.in-Ok.command) (code p name) _ _ _ _ _ (one_command c.args.words.now (command_of c.in-Ok.command) (code p name) c.in-Ok.ensures spelled) c.run_command-outcome.ensures.answer input hold
-
-pub returns-in-Ok-clause-code_seats : goal.returns-in-Ok-clause-code_seats
-returns-in-Ok-clause-code_seats g c = λ p name spelled.
-    same_seats (command_of c.in-Ok.command) (code p name) _ _ (one_command c.args.words.now (command_of c.in-Ok.command) (code p name) c.in-Ok.ensures spelled) c.run_command-outcome.ensures.seats
-
-pub returns-in-Ok-clause-code_complete : goal.returns-in-Ok-clause-code_complete
-returns-in-Ok-clause-code_complete g c = λ p name input spelled hold none passed.
+pub returns-in-Ok-clause-code_of_remux : goal.returns-in-Ok-clause-code_of_remux
+returns-in-Ok-clause-code_of_remux g c = λ p name input count spelled hold fine bytes few none.
     let same = one_command c.args.words.now (command_of c.in-Ok.command) (code p name) c.in-Ok.ensures spelled in
-    code_done (command_of c.in-Ok.command) p name input _ _ _ _ _ _ _ c.run_command-outcome.result same (same_answer (command_of c.in-Ok.command) (code p name) _ _ _ _ _ same c.run_command-outcome.ensures.answer input hold) c.run_command-outcome.ensures.cause none passed
+    let plan = spelled.command.plan in
+    let all = chain p p.first.mode p.first.guard input count plan.accepted (sends_alike p count plan.no_switch) fine bytes few in
+    coded (g.H.Shelf.holds c.args.shelf.now) _ _ (g.H.Shelf.left c.run_command-outcome.new.shelf) _ _ _ _ c.run_command-outcome.result p name (written_stream p input count) count (product (frame_cells p (multiplexed p input)) count) (same_answer (command_of c.in-Ok.command) (code p name) _ _ _ _ _ same c.run_command-outcome.ensures.answer (written_stream p input count) hold) (same_cause (command_of c.in-Ok.command) (code p name) _ _ _ _ _ same c.run_command-outcome.ensures.cause) none all.coded all.cells
 
-pub returns-in-Err-clause-code_answer : goal.returns-in-Err-clause-code_answer
-returns-in-Err-clause-code_answer g c = λ p name input spelled hold. absurd (no_place _ (code p name) _ spelled c.in-Err.ensures)
-
-pub returns-in-Err-clause-code_seats : goal.returns-in-Err-clause-code_seats
-returns-in-Err-clause-code_seats g c = λ p name spelled. absurd (no_place _ (code p name) _ spelled c.in-Err.ensures)
-
-pub returns-in-Err-clause-code_complete : goal.returns-in-Err-clause-code_complete
-returns-in-Err-clause-code_complete g c = λ p name input spelled hold none passed. absurd (no_place _ (code p name) _ spelled c.in-Err.ensures)
-
-pub returns-in-Ok-clause-receive_answer : goal.returns-in-Ok-clause-receive_answer
-returns-in-Ok-clause-receive_answer g c = λ mode guard name stream spelled hold.
-    same_answer (command_of c.in-Ok.command) (receive mode guard name) _ _ _ _ _ (one_command c.args.words.now (command_of c.in-Ok.command) (receive mode guard name) c.in-Ok.ensures spelled) c.run_command-outcome.ensures.answer stream hold
-
-pub returns-in-Ok-clause-receive_seats : goal.returns-in-Ok-clause-receive_seats
-returns-in-Ok-clause-receive_seats g c = λ mode guard name spelled.
-    same_seats (command_of c.in-Ok.command) (receive mode guard name) _ _ (one_command c.args.words.now (command_of c.in-Ok.command) (receive mode guard name) c.in-Ok.ensures spelled) c.run_command-outcome.ensures.seats
-
-pub returns-in-Ok-clause-receive_complete : goal.returns-in-Ok-clause-receive_complete
-returns-in-Ok-clause-receive_complete g c = λ mode guard name stream spelled hold none passed.
-    let same = one_command c.args.words.now (command_of c.in-Ok.command) (receive mode guard name) c.in-Ok.ensures spelled in
-    receive_done (command_of c.in-Ok.command) mode guard name stream _ _ _ _ _ _ _ c.run_command-outcome.result same (same_answer (command_of c.in-Ok.command) (receive mode guard name) _ _ _ _ _ same c.run_command-outcome.ensures.answer stream hold) c.run_command-outcome.ensures.cause none passed
+pub returns-in-Ok-clause-code_near : goal.returns-in-Ok-clause-code_near
+returns-in-Ok-clause-code_near g c = λ p name input m spelled hold bytes done.
+    let same = one_command c.args.words.now (command_of c.in-Ok.command) (code p name) c.in-Ok.ensures spelled in
+    let plan = spelled.command.plan in
+    wrote_near p input m _ _ ((g.H.Shelf.left c.run_command-outcome.new.shelf) seats.In) plan.accepted plan.no_switch bytes (coded_done (g.H.Shelf.holds c.args.shelf.now) _ _ (g.H.Shelf.left c.run_command-outcome.new.shelf) (g.H.Shelf.faults c.args.shelf.now) (g.H.Shelf.faults c.args.shelf.now) 0 0 c.run_command-outcome.result p input m (same_answer (command_of c.in-Ok.command) (code p name) _ _ _ _ _ same c.run_command-outcome.ensures.answer input hold) done)
 
 pub returns-in-Ok-clause-receive_near : goal.returns-in-Ok-clause-receive_near
-returns-in-Ok-clause-receive_near g c = λ p frames count mode guard name stream spelled hold plan has packets near few none.
+returns-in-Ok-clause-receive_near g c = λ p frames count mode guard name stream spelled hold plan packets near few none.
     let same = one_command c.args.words.now (command_of c.in-Ok.command) (receive mode guard name) c.in-Ok.ensures spelled in
-    ok_near (command_of c.in-Ok.command) mode guard name p frames count stream _ _ _ _ _ _ _ c.run_command-outcome.result same (same_answer (command_of c.in-Ok.command) (receive mode guard name) _ _ _ _ _ same c.run_command-outcome.ensures.answer stream hold)
-    c.run_command-outcome.ensures.cause none plan has packets near few
+    let all = near_received (first_version mode guard stream) p frames count plan (in_row mode guard stream count) packets near few in
+    let whole : count ≤ count = omega arith in
+    given (g.H.Shelf.holds c.args.shelf.now) _ _ (g.H.Shelf.left c.run_command-outcome.new.shelf) _ _ _ _ c.run_command-outcome.result mode guard name stream count (delivered p frames count) (same_answer (command_of c.in-Ok.command) (receive mode guard name) _ _ _ _ _ same c.run_command-outcome.ensures.answer stream hold) (same_cause (command_of c.in-Ok.command) (receive mode guard name) _ _ _ _ _ same c.run_command-outcome.ensures.cause) none all.outcome (all.product count whole)
+
+pub returns-in-Ok-clause-near_received : goal.returns-in-Ok-clause-near_received
+returns-in-Ok-clause-near_received g c = near_received
 
 pub returns-in-Ok-clause-near_cells : goal.returns-in-Ok-clause-near_cells
 returns-in-Ok-clause-near_cells g c = near_cells
@@ -90,17 +65,35 @@ returns-in-Ok-clause-near_cells g c = near_cells
 pub returns-in-Ok-clause-chain : goal.returns-in-Ok-clause-chain
 returns-in-Ok-clause-chain g c = chain
 
-pub returns-in-Err-clause-receive_answer : goal.returns-in-Err-clause-receive_answer
-returns-in-Err-clause-receive_answer g c = λ mode guard name stream spelled hold. absurd (no_place _ (receive mode guard name) _ spelled c.in-Err.ensures)
+pub returns-in-Err-clause-usage : goal.returns-in-Err-clause-usage
+returns-in-Err-clause-usage g c = λ word. fault_usage _ _ word c.in-Err.ensures
 
-pub returns-in-Err-clause-receive_seats : goal.returns-in-Err-clause-receive_seats
-returns-in-Err-clause-receive_seats g c = λ mode guard name spelled. absurd (no_place _ (receive mode guard name) _ spelled c.in-Err.ensures)
+pub returns-in-Err-clause-one_command : goal.returns-in-Err-clause-one_command
+returns-in-Err-clause-one_command g c = λ a b s t. one_command c.args.words.now a b s t
 
-pub returns-in-Err-clause-receive_complete : goal.returns-in-Err-clause-receive_complete
-returns-in-Err-clause-receive_complete g c = λ mode guard name stream spelled hold none passed. absurd (no_place _ (receive mode guard name) _ spelled c.in-Err.ensures)
+pub returns-in-Err-clause-answer : goal.returns-in-Err-clause-answer
+returns-in-Err-clause-answer g c = λ d spelled. absurd (no_place _ d _ spelled c.in-Err.ensures)
+
+pub returns-in-Err-clause-seats : goal.returns-in-Err-clause-seats
+returns-in-Err-clause-seats g c = λ d spelled. absurd (no_place _ d _ spelled c.in-Err.ensures)
+
+pub returns-in-Err-clause-complete : goal.returns-in-Err-clause-complete
+returns-in-Err-clause-complete g c = λ d spelled none free. absurd (no_place _ d _ spelled c.in-Err.ensures)
+
+pub returns-in-Err-clause-good_packets : goal.returns-in-Err-clause-good_packets
+returns-in-Err-clause-good_packets g c = λ p a b n input spelled hold none fine. absurd (no_place _ (remux p a b n) _ spelled c.in-Err.ensures)
+
+pub returns-in-Err-clause-code_of_remux : goal.returns-in-Err-clause-code_of_remux
+returns-in-Err-clause-code_of_remux g c = λ p name input count spelled hold fine bytes few none. absurd (no_place _ (code p name) _ spelled c.in-Err.ensures)
+
+pub returns-in-Err-clause-code_near : goal.returns-in-Err-clause-code_near
+returns-in-Err-clause-code_near g c = λ p name input m spelled hold bytes done. absurd (no_place _ (code p name) _ spelled c.in-Err.ensures)
 
 pub returns-in-Err-clause-receive_near : goal.returns-in-Err-clause-receive_near
-returns-in-Err-clause-receive_near g c = λ p frames count mode guard name stream spelled hold plan has packets near few none. absurd (no_place _ (receive mode guard name) _ spelled c.in-Err.ensures)
+returns-in-Err-clause-receive_near g c = λ p frames count mode guard name stream spelled hold plan packets near few none. absurd (no_place _ (receive mode guard name) _ spelled c.in-Err.ensures)
+
+pub returns-in-Err-clause-near_received : goal.returns-in-Err-clause-near_received
+returns-in-Err-clause-near_received g c = near_received
 
 pub returns-in-Err-clause-near_cells : goal.returns-in-Err-clause-near_cells
 returns-in-Err-clause-near_cells g c = near_cells

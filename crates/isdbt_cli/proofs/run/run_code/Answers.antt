@@ -1,24 +1,27 @@
-use Rattle.std.proofs.Common.{◌∙◌, sym, subst}
-use Rattle.isdbt_cli.specs.CodeRun.{IsLoneSeat}
-use Rattle.isdbt_cli.proofs.CodeOutcomes.{given_answer, given_cause, lone_seat, all_closed, seated}
+use Rattle.std.proofs.Common.{Ok, Err, ◌∙◌, refl, sym, ap, subst, inr}
+use Rattle.coder_core.specs.Answers.{code_kind}
+use Rattle.isdbt_cli.specs.declared.fault.Outcome.TheVariants.{Fault}
+use Rattle.isdbt_cli.specs.Faults.{run_fault_of_code}
+use Rattle.isdbt_cli.specs.Run.{AreSeated}
+use Rattle.isdbt_cli.proofs.NamedInputs.{lone_stopped, lone_seated}
+use Rattle.isdbt_cli.proofs.Outcomes.{code_keeps, not_unopened, seated}
 use Rattle.isdbt_cli.proofs.run.run_code.Goals as goal
 
 pub returns-in-Err-clause-seats : goal.returns-in-Err-clause-seats
-returns-in-Err-clause-seats g c = all_closed _ _ c.in-Err.ensures.other_open c.requires.closed c.in-Err.ensures.closed
+returns-in-Err-clause-seats g c = lone_stopped _ _ _ c.in-Err.ensures.other_open c.requires.closed c.in-Err.ensures.closed
 
 pub returns-in-Ok-code-clause-answer : goal.returns-in-Ok-code-clause-answer
-returns-in-Ok-code-clause-answer g c = λ input holds. c.in-Ok-code.ensures.answer input (c.in-Ok.ensures.content ∙ holds)
+returns-in-Ok-code-clause-answer g c = λ input holds. inr (Ok c.in-Ok-code.frames, refl, c.in-Ok-code.ensures.answer input (c.in-Ok.ensures.content ∙ holds))
 
 pub returns-in-Ok-code-clause-seats : goal.returns-in-Ok-code-clause-seats
-returns-in-Ok-code-clause-seats g c = subst IsLoneSeat (sym c.in-Ok-code.ensures.still_open) (lone_seat _ _ c.in-Ok.ensures.other_open c.requires.closed c.in-Ok.ensures.opened)
+returns-in-Ok-code-clause-seats g c = subst (AreSeated _) (sym c.in-Ok-code.ensures.still_open) (lone_seated _ _ _ c.in-Ok.ensures.other_open c.requires.closed c.in-Ok.ensures.opened)
 
 pub returns-in-Err-code-clause-answer : goal.returns-in-Err-code-clause-answer
-returns-in-Err-code-clause-answer g c = λ input holds.
-    given_answer c.args.plan.now input _ _ _ c.in-Err-code.fault c.from.result c.from.ensures (c.in-Err-code.ensures.answer input (c.in-Ok.ensures.content ∙ holds))
-
-pub returns-in-Err-code-clause-cause : goal.returns-in-Err-code-clause-cause
-returns-in-Err-code-clause-cause g c = given_cause _ _ _ _ _ _ c.in-Err-code.fault c.from.result c.from.ensures c.in-Ok.ensures.cause.kept c.in-Err-code.ensures.cause
+returns-in-Err-code-clause-answer g c = λ input holds. inr (Err c.in-Err-code.fault, ap Fault c.from.ensures, c.in-Err-code.ensures.answer input (c.in-Ok.ensures.content ∙ holds))
 
 pub returns-in-Err-code-clause-seats : goal.returns-in-Err-code-clause-seats
 returns-in-Err-code-clause-seats g c =
-    seated _ c.in-Err-code.fault c.from.result c.from.ensures (subst IsLoneSeat (sym c.in-Err-code.ensures.still_open) (lone_seat _ _ c.in-Ok.ensures.other_open c.requires.closed c.in-Ok.ensures.opened))
+    seated run_fault_of_code code_kind _ _ c.in-Err-code.fault c.from.result code_keeps c.from.ensures (subst (AreSeated _) (sym c.in-Err-code.ensures.still_open) (lone_seated _ _ _ c.in-Ok.ensures.other_open c.requires.closed c.in-Ok.ensures.opened))
+
+pub returns-in-Err-code-clause-unopened : goal.returns-in-Err-code-clause-unopened
+returns-in-Err-code-clause-unopened g c = λ seat e. not_unopened _ run_fault_of_code code_kind c.in-Err-code.fault c.from.result seat code_keeps c.from.ensures e

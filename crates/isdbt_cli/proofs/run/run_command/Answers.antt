@@ -1,0 +1,4 @@
+use Rattle.isdbt_cli.proofs.run.run_command.Goals as goal
+
+pub returns-in-Remux-clause-seats : goal.returns-in-Remux-clause-seats
+returns-in-Remux-clause-seats g c = rw c.in-Remux.is c.run_remux.ensures.seats
