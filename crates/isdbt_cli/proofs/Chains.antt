@@ -9,12 +9,11 @@ use Rattle.isdbt_base.specs.Plans.{Schedule, IsPlan}
 use Rattle.isdbt_base.specs.Frames.{FramePackets}
 use Rattle.isdbt_base.specs.Outcome.{product, ArePassed}
 use Rattle.gf_rs.specs.Codewords.{IsBytes}
-use Rattle.edge_io.specs.Known.{append_known}
 use Rattle.edge_io.specs.FrameAnswers.{Finished}
 use Rattle.remux_core.specs.Multiplex.{multiplexed, broadcast}
 use Rattle.remux_core.specs.Parts.{IsGood}
-use Rattle.coder_core.specs.InputFrames.{first_head, input_frames}
-use Rattle.coder_core.specs.CodeRefusals.{code_refusal, is_there, coded_frame}
+use Rattle.coder_core.specs.InputFrames.{first_head}
+use Rattle.coder_core.specs.CodeRefusals.{code_refusal, is_there, frames_from, coded_frame}
 use Rattle.coder_core.specs.SentCells.{frame_cells}
 use Rattle.coder_core.specs.Answers.{code_command}
 use Rattle.coder_core.proofs.BehindEnd.{free}
@@ -63,25 +62,19 @@ chain p mode guard input count plan has good bytes few =
 pub sends_alike : (p : Schedule) (count : ℕ) → p.switches ≡ [] → SendsIn p.first.mode p.first.guard p count
 sends_alike p count none f less = (rw none refl, rw none refl)
 
--- the cells that were written are near the packets that were found
-found_near : (p : Schedule) (input : List ℕ) (m : ℕ) (before after : Option (List ℕ)) (o : Option ℕ) → IsPlan p → p.switches ≡ [] → IsBytes input → ArePassed (code_refusal p input frame_limit) (is_there p input) m → after ≡ append_known before (product (coded_frame p input) m) → first_head input ≡ o
-    → WroteNear p m before after
-found_near p input m before after None plan none bytes passed wrote found =
+-- its cells are near the packets that were found
+found_near : (p : Schedule) (input : List ℕ) (m : ℕ) (o : Option ℕ) → IsPlan p → p.switches ≡ [] → IsBytes input → ArePassed (code_refusal p input frame_limit) (is_there p input) m → first_head input ≡ o
+    → ArePackets p (frames_from p input o) m × IsNear (first_version p.first.mode p.first.guard (product (coded_frame p input) m)) p (frames_from p input o) m
+found_near p input m None plan none bytes passed found =
     let empty = coded-none p input m frame_limit passed found in
-    let packets : ArePackets p (input_frames p input 0) m = λ f j x l less used within. absurd (omega (arith, less, empty.0)) in
-    let alike = sends_alike p m none in
-    let near = near_cells p (input_frames p input 0) m p.first.mode p.first.guard plan alike packets in
-    let same : product (frame_cells p (input_frames p input 0)) m ≡ product (coded_frame p input) m = product-same (frame_cells p (input_frames p input 0)) (coded_frame p input) m (λ f less. absurd (omega (arith, less, empty.0))) in
-    record {
-      frames = input_frames p input 0;
-      packets = packets;
-      cells = product (coded_frame p input) m;
-      near = subst (λ cells. IsNear (first_version p.first.mode p.first.guard cells) p (input_frames p input 0) m) same near;
-      written = wrote;
-    }
-found_near p input m before after (Some head) plan none bytes passed wrote found =
-    let near = coded-near p.first.mode p.first.guard p input m frame_limit head plan bytes passed (sends_alike p m none) found in
-    record { frames = input_frames p input head; packets = near.0; cells = product (coded_frame p input) m; near = near.1; written = wrote }
+    let frames : FramePackets = frames_from p input None in
+    let packets : ArePackets p frames m = λ f j x l less used within. absurd (omega (arith, less, empty.0)) in
+    let near = near_cells p frames m p.first.mode p.first.guard plan (sends_alike p m none) packets in
+    let same : product (frame_cells p frames) m ≡ product (coded_frame p input) m = product-same (frame_cells p frames) (coded_frame p input) m (λ f less. absurd (omega (arith, less, empty.0))) in
+    (packets, subst (λ cells. IsNear (first_version p.first.mode p.first.guard cells) p frames m) same near)
+found_near p input m (Some head) plan none bytes passed found = coded-near p.first.mode p.first.guard p input m frame_limit head plan bytes passed (sends_alike p m none) found
 
-pub wrote_near : (p : Schedule) (input : List ℕ) (m : ℕ) (before after left : Option (List ℕ)) → IsPlan p → p.switches ≡ [] → IsBytes input → Finished (code_command p input frame_limit) m before after left → WroteNear p m before after
-wrote_near p input m before after left plan none bytes done = found_near p input m before after (first_head input) plan none bytes done.ended.outcome.before done.ended.written refl
+pub wrote_near : (p : Schedule) (input : List ℕ) (m : ℕ) (before after left : Option (List ℕ)) → IsPlan p → p.switches ≡ [] → IsBytes input → Finished (code_command p input frame_limit) m before after left → WroteNear p input m before after
+wrote_near p input m before after left plan none bytes done =
+    let near = found_near p input m (first_head input) plan none bytes done.ended.outcome.before refl in
+    record { packets = near.0; near = near.1; written = done.ended.written }

@@ -12,7 +12,8 @@ use Rattle.edge_io.specs.Known.{append_known}
 use Rattle.remux_core.specs.Multiplex.{placed_before, multiplexed, packet_count, frame_delay, written_frame}
 use Rattle.remux_core.specs.Answers.{IsPlacedIn}
 use Rattle.coder_core.specs.SentCells.{frame_cells}
-use Rattle.coder_core.specs.CodeRefusals.{code_refusal, is_there, coded_frame}
+use Rattle.coder_core.specs.InputFrames.{first_head}
+use Rattle.coder_core.specs.CodeRefusals.{code_refusal, is_there, frames_from, coded_frame}
 use Rattle.seg_receiver.specs.CellStream.{View, first_version}
 use Rattle.seg_receiver.specs.Received.{received}
 use Rattle.seg_receiver.specs.ReceiveRefusals.{receive_is_there, receive_refusal}
@@ -37,13 +38,11 @@ pub record IsReceivedAs (v : View) (p : Schedule) (frames : FramePackets) (count
   pub outcome : IsOutcome (receive_refusal v false frame_limit) (receive_is_there v) count None
   pub product : (m : ℕ) → m ≤ count → received v m ≡ delivered p frames m
 
--- cells were written that are near a plan and packets of bytes
-pub record WroteNear (p : Schedule) (count : ℕ) (before after : Option (List ℕ)) : Type 0 where
-  pub frames : FramePackets
-  pub packets : ArePackets p frames count
-  pub cells : List ℕ
-  pub near : IsNear (first_version p.first.mode p.first.guard cells) p frames count
-  pub written : after ≡ append_known before cells
+-- the cells of the first so many frames of an input were written, and they are near a plan and the packets that are found in the input, which are packets of bytes
+pub record WroteNear (p : Schedule) (input : List ℕ) (count : ℕ) (before after : Option (List ℕ)) : Type 0 where
+  pub packets : ArePackets p (frames_from p input (first_head input)) count
+  pub near : IsNear (first_version p.first.mode p.first.guard (product (coded_frame p input) count)) p (frames_from p input (first_head input)) count
+  pub written : after ≡ append_known before (product (coded_frame p input) count)
 
 -- code finds all frames of what remux writes, and refuses none, also above the last; the cells that it writes are those of the plan and the multiplex of the inputs, and near them; the packets of the multiplex are packets of bytes; and each packet of an input that a frame of the multiplex places is delivered at that place of its layer, as many frames later as the layer's delay
 pub record IsChain (p : Schedule) (input : Layer → List ℕ) (mode : Mode) (guard : Guard) (count : ℕ) : Type 0 where

@@ -199,9 +199,10 @@ pub fn run<H: Shelf, K: Sink, E: Sink>(
         → NothingRose (lone_name name) (H.faults shelf.old) (H.faults shelf.new) (K.faults out.old) (K.faults out.new)
         → IsDoneWith count (product (frame_cells p (multiplexed p input)) count) (K.written out.old) (K.written out.new) result }
 
-    // A coding that is done has written cells that are near the plan and packets of bytes, those found in the input.
+    // A coding that is done has written cells that are near the plan and the packets found in the input, which are packets of
+    // bytes.
     ensures code_near { (p : Schedule) (name : Word) (input : List ℕ) (m : ℕ) → Spells words.now (code p name) → H.holds shelf.old name ≡ Some input → IsBytes input
-        → result ≡ Outcome.Done m → WroteNear p m (K.written out.old) (K.written out.new) }
+        → result ≡ Outcome.Done m → WroteNear p input m (K.written out.old) (K.written out.new) }
 
     // Cells that are near those of a plan and no fault of the outside: the packets of the plan's frames, each put off by its
     // layer's delay, and no others, or no memory.
