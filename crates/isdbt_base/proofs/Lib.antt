@@ -4,3 +4,4 @@ pub mod OptionLaws
 pub mod Products
 pub mod RangeLaws
 pub mod Rows
+pub mod Finding

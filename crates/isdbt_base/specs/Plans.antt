@@ -28,7 +28,8 @@ SameLayers s u = (is_some s.b ≡ is_some u.b) × (is_some s.c ≡ is_some u.c)
 -- the switches rise from this frame on, each to an accepted setting with these layers
 abbrev pub RisesFrom : ℕ → Parameters → List Switch → Type 0
 RisesFrom last first [] = Unit {0}
-RisesFrom last first (w ∷ ws) = (last < w.frame) × (w.frame ≤ 16777215) × IsAccepted w.after.setting × SameLayers first w.after.setting × RisesFrom w.frame first ws
+RisesFrom last first (w ∷ ws) =
+    (last < w.frame) × (w.frame ≤ 16777215) × IsAccepted w.after.setting × SameLayers first w.after.setting × RisesFrom w.frame first ws
 
 -- at most seven switches, at rising frames, that keep the layers
 pub record IsPlan (p : Schedule) : Type 0 where
@@ -36,7 +37,7 @@ pub record IsPlan (p : Schedule) : Type 0 where
   pub few : length p.switches ≤ 7
   pub rising : RisesFrom 0 p.first.setting p.switches
 
--- the countdown: frames to the switch less one, where at most 15 are left, else 15 (ARIB STD-B31 3.15.6.2)
+-- the countdown: frames to the switch less one, where at most 15 are left, else 15
 abbrev pub countdown_to : Option ℕ → ℕ → ℕ
 countdown_to None f = 15
 countdown_to (Some e) f = if nat_le (e - f) 15 then e - f - 1 else 15
@@ -51,7 +52,15 @@ next_setting (w ∷ ws) = Some w.after.setting
 
 -- what holds at frame f of the epoch that sends this from its start on up to the first of the switches
 abbrev pub in_epoch : Transmission → ℕ → List Switch → ℕ → At
-in_epoch t start ws f = record { mode = t.mode; guard = t.guard; setting = t.setting; start = start; end = next_frame ws; next = next_setting ws; countdown = countdown_to (next_frame ws) f }
+in_epoch t start ws f = record {
+  mode = t.mode;
+  guard = t.guard;
+  setting = t.setting;
+  start = start;
+  end = next_frame ws;
+  next = next_setting ws;
+  countdown = countdown_to (next_frame ws) f;
+}
 
 -- what holds at frame f, which is sent so from the start on, and from the switches on as they say
 abbrev pub at_from : Transmission → ℕ → List Switch → ℕ → At

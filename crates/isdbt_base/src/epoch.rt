@@ -7,8 +7,11 @@ use crate::setting::Setting;
 /// or a switch up to the next switch.
 #[derive(Clone, Copy, Debug, PartialEq, Eq)]
 pub struct At {
+    /// The mode.
     pub mode: Mode,
+    /// The guard interval.
     pub guard: Guard,
+    /// The parameters of the layers.
     pub setting: Setting,
     /// The epoch's first frame.
     pub start: u32,
@@ -16,7 +19,6 @@ pub struct At {
     pub end: Option<u32>,
     /// The setting from there on.
     pub next: Option<Setting>,
-    /// The frames that are left before the switch less one where at most 15 are left, and else 15
-    /// (ARIB STD-B31 3.15.6.2).
+    /// The frames that are left before the switch less one where at most 15 are left, and else 15.
     pub countdown: u8,
 }

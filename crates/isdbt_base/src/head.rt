@@ -8,6 +8,7 @@ use crate::kinds::{Guard, Mode};
 /// The least of the bytes 0 to 5 of a head that is not an allowed value.
 #[derive(Clone, Copy, Debug, PartialEq, Eq)]
 pub struct HeadFault {
+    /// The number of the byte, counted from 0.
     pub byte: u8,
 }
 

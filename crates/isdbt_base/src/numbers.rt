@@ -5,7 +5,13 @@ ghost use Rattle.isdbt_base.specs.Numbers.{carriers, symbol_clocks, slots_per_fr
 
 use crate::kinds::{DepthCode, Guard, Mode, Modulation, Rate};
 
-/// Data carriers of a segment: 96, 192 or 384 (ARIB STD-B31 3.1).
+/// Symbols of a frame.
+pub const SYMBOLS: usize = 204;
+
+/// Bytes of a broadcast packet: 188 of its transport packet, 8 of information, and 8 where parity may stand.
+pub const BROADCAST_BYTES: usize = 204;
+
+/// Data carriers of a segment: 96, 192 or 384.
 pub fn carriers(mode: Mode) -> u32
     ensures value { result ≡ carriers mode }
     ensures least { 96 ≤ result }
@@ -18,7 +24,15 @@ pub fn carriers(mode: Mode) -> u32
     }
 }
 
-/// Clocks of a symbol with its guard interval (ARIB STD-B31 3.1).
+/// Bytes of a symbol in a stream of cells: one for its TMCC bit, and two for each cell of its 13 segments.
+pub fn symbol_size(mode: Mode) -> usize
+    ensures value { result ≡ 1 + 26 * carriers mode }
+    ensures most { result ≤ 9985 }
+{
+    1 + 26 * carriers(mode) as usize
+}
+
+/// Clocks of a symbol with its guard interval.
 pub fn symbol_clocks(mode: Mode, guard: Guard) -> u32
     ensures value { result ≡ symbol_clocks mode guard }
     ensures least { 2112 ≤ result }
@@ -37,7 +51,7 @@ pub fn symbol_clocks(mode: Mode, guard: Guard) -> u32
     }
 }
 
-/// Slots of a frame, each for one broadcast packet of 408 clocks (ARIB STD-B31 5.5).
+/// Slots of a frame, each for one broadcast packet of 408 clocks.
 pub fn slots(mode: Mode, guard: Guard) -> u32
     ensures value { result ≡ slots_per_frame mode guard }
     ensures least { 1056 ≤ result }
@@ -46,7 +60,7 @@ pub fn slots(mode: Mode, guard: Guard) -> u32
     204 * symbol_clocks(mode, guard) / 408
 }
 
-/// Bits of a cell: 2, 4 or 6 (ARIB STD-B31 3.9).
+/// Bits of a cell: 2, 4 or 6.
 pub fn bits_per_cell(modulation: Modulation) -> u32
     ensures value { result ≡ cell_bits modulation }
     ensures least { 2 ≤ result }
@@ -59,7 +73,7 @@ pub fn bits_per_cell(modulation: Modulation) -> u32
     }
 }
 
-/// The inner rate as two numbers: of so many steps of the inner coder so many bits are sent (ARIB STD-B31 3.6).
+/// The inner rate as two numbers: of so many steps of the inner coder so many bits are sent.
 pub fn rate_pair(rate: Rate) -> (u32, u32)
     ensures steps { result.0 ≡ rate_steps rate }
     ensures bits { result.1 ≡ rate_bits rate }
@@ -74,7 +88,7 @@ pub fn rate_pair(rate: Rate) -> (u32, u32)
     }
 }
 
-/// Time interleaving length, in symbols (ARIB STD-B31 3.11).
+/// Time interleaving length, in symbols.
 pub fn depth_of(mode: Mode, code: DepthCode) -> u32
     ensures value { result ≡ time_depth mode code }
     ensures most { result ≤ 16 }
@@ -92,7 +106,7 @@ pub fn depth_of(mode: Mode, code: DepthCode) -> u32
     }
 }
 
-/// Delay adjustment of the time interleaving, in symbols (ARIB STD-B31 3.11).
+/// Delay adjustment of the time interleaving, in symbols.
 pub fn adjust_of(mode: Mode, code: DepthCode) -> u32
     ensures value { result ≡ time_adjust mode code }
     ensures most { result ≤ 112 }

@@ -1,8 +1,10 @@
 //! The setting of a frame: the parameters of its layers.
 
+ghost use Rattle.std.specs.Prelude.{◌≡◌, true};
+
 use crate::kinds::{Layer, Mode};
+use crate::layer_numbers::{cells_of, delay_of, packets_of, segments_of};
 use crate::layer_setting::LayerSetting;
-use crate::used::{cells_of, delay_of, packets_of, segments_of};
 use std::marker::Model;
 
 /// Why a setting is refused.
@@ -17,13 +19,21 @@ pub enum SettingFault {
 }
 
 /// The partial reception flag and the parameters of the used layers: 13 segments in all, C used only with B, and A of
-/// one segment where partial reception is set (ARIB STD-B31 3.1, 3.15.6).
+/// one segment where partial reception is set.
 #[derive(Clone, Copy, Debug, PartialEq, Eq)]
 pub struct Setting {
     partial: bool,
     a: LayerSetting,
     b: Option<LayerSetting>,
     c: Option<LayerSetting>,
+}
+
+/// Whether two layers that may be unused are the same.
+fn are_equal(a: &Option<LayerSetting>, b: &Option<LayerSetting>) -> bool
+    ensures equal { result ≡ true → a.now ≡ b.now }
+    ensures same { a.now ≡ b.now → result ≡ true }
+{
+    a == b
 }
 
 impl Model for Setting {
@@ -39,7 +49,7 @@ impl Model for Setting {
 }
 
 impl Setting {
-    ghost use Rattle.std.specs.Prelude.{◌≡◌, ◌≤◌, Some, None, IsSome, MatchResult};
+    ghost use Rattle.std.specs.Prelude.{◌≡◌, ◌≤◌, true, Some, None, IsSome, MatchResult};
     ghost use Rattle.isdbt_base.specs.Parameters.{Parameters, IsAccepted, layer_of, number_of, sum_before};
     ghost use Rattle.isdbt_base.specs.Refusals.{refusal_of};
     ghost use Rattle.isdbt_base.specs.Numbers.{total_packets, greatest_delay, first_segment, packets_per_frame, layer_delay, layer_cells};
@@ -74,6 +84,20 @@ impl Setting {
         let _partial = &self.partial;
     }
 
+    /// Whether two settings have the same partial reception flag and the same layers.
+    pub fn is_equal(&self, other: &Setting) -> bool
+        ensures equal { result ≡ true → self.now ≡ other.now }
+        ensures same { self.now ≡ other.now → result ≡ true }
+    {
+        if self.partial() != other.partial()
+            || !are_equal(&self.layer(Layer::A), &other.layer(Layer::A))
+        {
+            return false;
+        }
+        are_equal(&self.layer(Layer::B), &other.layer(Layer::B))
+            && are_equal(&self.layer(Layer::C), &other.layer(Layer::C))
+    }
+
     /// The partial reception flag.
     pub fn partial(&self) -> bool
         ensures { result ≡ self.now.partial }
@@ -90,6 +114,14 @@ impl Setting {
             Layer::B => self.b,
             Layer::C => self.c,
         }
+    }
+
+    /// Cells of a layer in a symbol: none where the layer is unused.
+    pub fn cells(&self, layer: Layer, mode: Mode) -> u32
+        ensures value { result ≡ number_of (layer_cells mode) (layer_of self.now layer) }
+        ensures most { result ≤ 4992 }
+    {
+        cells_of(&self.layer(layer), mode)
     }
 
     /// Packets of a layer in a frame: at least 12, or none where the layer is unused.
