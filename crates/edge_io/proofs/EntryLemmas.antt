@@ -9,7 +9,7 @@ use Rattle.std.specs.Option.{option_map, option_map_or, ForSome}
 use Rattle.std.specs.Str.{bytes_eq}
 use Rattle.std.proofs.lemmas.Slice.Eq.{bytes_eq-Decides}
 use Rattle.edge_io.specs.declared.entries.Entry.{Entry}
-use Rattle.edge_io.specs.declared.entries.Place.{Place}
+use Rattle.edge_io.specs.declared.entries.Cursor.{Cursor}
 use Rattle.edge_io.specs.Entries.{told_content, bytes_at, rest_at, AddsEntry, Puts}
 
 both : (b : Bool) → (b ≡ true → ⊥) → b ≡ false
@@ -48,13 +48,13 @@ slice_get_front [] ys i within = absurd (omega arith)
 slice_get_front (x ∷ xs) ys zero within = refl
 slice_get_front (x ∷ xs) ys (suc i) within = slice_get_front xs ys i (omega arith)
 
--- a place in the old entries keeps what it has left where one more is added
-rest_stays : (old new : List Entry) (name bytes : List ℕ) (place : Option Place) → AddsEntry old new name bytes
-    → ForSome place (λ p. p.entry < length old)
-    → option_map_or (rest_at new) place [] ≡ option_map_or (rest_at old) place []
+-- a cursor in the old entries keeps what it has left where one more is added
+rest_stays : (old new : List Entry) (name bytes : List ℕ) (cursor : Option Cursor) → AddsEntry old new name bytes
+    → ForSome cursor (λ p. p.entry < length old)
+    → option_map_or (rest_at new) cursor [] ≡ option_map_or (rest_at old) cursor []
 rest_stays old new name bytes None a within = refl
-rest_stays old new name bytes (Some place) a within =
-    rw (a.added, slice_get_front old (a.entry ∷ []) place.entry (within place refl)) refl
+rest_stays old new name bytes (Some cursor) a within =
+    rw (a.added, slice_get_front old (a.entry ∷ []) cursor.entry (within cursor refl)) refl
 
 some_at : (entries : List Entry) (i : ℕ) → i < length entries
     → option_map (λ e. e.bytes.items) (slice_get entries i) ≡ Some (bytes_at entries i)
@@ -66,9 +66,9 @@ none_false : (b : Bool) (i : ℕ) → cond b (Some i) None ≡ None → b ≡ fa
 none_false true i is = absurd (cc)
 none_false false i is = refl
 
--- the first place of a name has the bytes that the name holds, and a name that has no place isn't told
-pub found_at : (entries : List Entry) (name : List ℕ) (place : Option ℕ) → place ≡ position (λ e. bytes_eq (string_bytes e.name) name) entries
-    → MatchOption place (told_content entries name ≡ None) (λ i. told_content entries name ≡ Some (bytes_at entries i))
+-- the first entry of a name has the bytes that the name holds, and a name that has no entry isn't told
+pub found_at : (entries : List Entry) (name : List ℕ) (index : Option ℕ) → index ≡ position (λ e. bytes_eq (string_bytes e.name) name) entries
+    → MatchOption index (told_content entries name ≡ None) (λ i. told_content entries name ≡ Some (bytes_at entries i))
 found_at entries name None is =
     let first = position_or_len (λ (e : Entry). bytes_eq (string_bytes e.name) name) entries in
     let past : length entries ≤ first = omega (arith, ltb-false first (length entries) (none_false _ first (sym is))) in
@@ -85,9 +85,9 @@ pub puts_on_ok : {T E : Type 0} (old new : List Entry) (name bytes : List ℕ) (
 puts_on_ok old new name bytes (Ok _) a none = puts old new name bytes a none
 puts_on_ok old new name bytes (Err _) a none = tt
 
--- whether an entry is added or not, a place keeps what it has left
-pub rest_stays_either : {T E : Type 0} (old new : List Entry) (name bytes : List ℕ) (place : Option Place) (result : Result T E)
-    → OnOk result (AddsEntry old new name bytes) → OnErr result (new ≡ old) → ForSome place (λ p. p.entry < length old)
-    → option_map_or (rest_at new) place [] ≡ option_map_or (rest_at old) place []
-rest_stays_either old new name bytes place (Ok _) a same within = rest_stays old new name bytes place a within
-rest_stays_either old new name bytes place (Err _) a same within = rw same refl
+-- whether an entry is added or not, a cursor keeps what it has left
+pub rest_stays_either : {T E : Type 0} (old new : List Entry) (name bytes : List ℕ) (cursor : Option Cursor) (result : Result T E)
+    → OnOk result (AddsEntry old new name bytes) → OnErr result (new ≡ old) → ForSome cursor (λ p. p.entry < length old)
+    → option_map_or (rest_at new) cursor [] ≡ option_map_or (rest_at old) cursor []
+rest_stays_either old new name bytes cursor (Ok _) a same within = rest_stays old new name bytes cursor a within
+rest_stays_either old new name bytes cursor (Err _) a same within = rw same refl

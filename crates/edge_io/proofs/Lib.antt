@@ -1,4 +1,5 @@
 pub mod EntryLemmas
+pub mod Filling
 pub mod FrameAnswers
 pub mod Known
-pub mod PlaceLemmas
+pub mod SeatLemmas

@@ -5,9 +5,9 @@ use Rattle.std.specs.Option.{option_map, option_map_or, ForSome}
 use Rattle.std.specs.Str.{bytes_eq}
 use Rattle.edge_io.specs.declared.shelf.Seat.{Seat}
 use Rattle.edge_io.specs.declared.entries.Entry.{Entry}
-use Rattle.edge_io.specs.declared.entries.Place.{Place}
-use Rattle.edge_io.specs.declared.places.Places.{Places}
-use Rattle.edge_io.specs.Places.{place_at}
+use Rattle.edge_io.specs.declared.entries.Cursor.{Cursor}
+use Rattle.edge_io.specs.declared.per_seat.PerSeat.{PerSeat}
+use Rattle.edge_io.specs.PerSeat.{at_seat}
 
 -- the bytes of the first entry with this name
 abbrev pub told_content : List Entry → List ℕ → Option (List ℕ)
@@ -18,14 +18,14 @@ told_content entries name =
 abbrev pub bytes_at : List Entry → ℕ → List ℕ
 bytes_at entries index = option_map_or (λ e. e.bytes.items) (slice_get entries index) []
 
--- what a place has left
-abbrev pub rest_at : List Entry → Place → List ℕ
-rest_at entries place = drop place.taken (bytes_at entries place.entry)
+-- what is left from a cursor on
+abbrev pub rest_at : List Entry → Cursor → List ℕ
+rest_at entries cursor = drop cursor.taken (bytes_at entries cursor.entry)
 
 -- each seat that is open reads an entry
-abbrev pub ReadEntries : Places (Option Place) → List Entry → Type 0
-ReadEntries places entries =
-    (seat : Seat) → ForSome (place_at places seat) (λ place. place.entry < length entries)
+abbrev pub ReadEntries : PerSeat (Option Cursor) → List Entry → Type 0
+ReadEntries cursors entries =
+    (seat : Seat) → ForSome (at_seat cursors seat) (λ cursor. cursor.entry < length entries)
 
 -- one entry more, with this name and these bytes
 pub record AddsEntry (old new : List Entry) (name bytes : List ℕ) : Type 0 where

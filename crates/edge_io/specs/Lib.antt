@@ -5,9 +5,10 @@ pub mod FrameAnswers
 pub mod Known
 pub mod MemoryShelf
 pub mod MemorySink
-pub mod Places
+pub mod PerSeat
 pub mod QuietShelf
 pub mod QuietSink
+pub mod Reading
 pub mod Seats
 pub mod Source
 pub mod StreamSink

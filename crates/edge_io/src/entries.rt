@@ -1,4 +1,5 @@
-// Names and what they hold.
+//! Names and what they hold.
+
 ghost use Rattle.std.specs.Prelude.{◌≡◌, ◌<◌, ◌+◌, Some, None, min, length, take, position, string_bytes, OnOk, OnErr, IfSome, IfNone};
 ghost use Rattle.std.specs.Str.{bytes_eq};
 ghost use Rattle.edge_io.specs.Entries.{told_content, bytes_at, rest_at, AddsEntry};
@@ -6,16 +7,21 @@ ghost use Rattle.edge_io.specs.Entries.{told_content, bytes_at, rest_at, AddsEnt
 use isdbt_base::NoMemory;
 use std::alloc::Global;
 
+/// A name and the bytes that it holds.
 #[derive(Drop)]
 pub struct Entry {
+    /// The name.
     pub name: String,
+    /// The bytes that it holds.
     pub bytes: Vec<u8>,
 }
 
 /// Where a seat reads: which entry, and how many of its bytes were taken.
 #[derive(Clone, Copy)]
-pub struct Place {
+pub struct Cursor {
+    /// The index of the entry.
     pub entry: usize,
+    /// How many of its bytes were taken.
     pub taken: usize,
 }
 
@@ -27,14 +33,14 @@ fn index_of(entries: &[Entry], name: &str) -> Option<usize>
 }
 
 /// The start of the first entry with this name.
-pub fn start_of(entries: &[Entry], name: &str) -> Option<Place>
-    ensures within { IfSome result (λ place. place.entry < length entries.now) }
-    ensures start { IfSome result (λ place. place.taken ≡ 0) }
-    ensures content { IfSome result (λ place. told_content entries.now name.now ≡ Some (rest_at entries.now place)) }
+pub fn start_of(entries: &[Entry], name: &str) -> Option<Cursor>
+    ensures within { IfSome result (λ cursor. cursor.entry < length entries.now) }
+    ensures start { IfSome result (λ cursor. cursor.taken ≡ 0) }
+    ensures content { IfSome result (λ cursor. told_content entries.now name.now ≡ Some (rest_at entries.now cursor)) }
     ensures absent { IfNone result (told_content entries.now name.now ≡ None) }
 {
     let entry = index_of(entries, name)?;
-    Some(Place { entry, taken: 0 })
+    Some(Cursor { entry, taken: 0 })
 }
 
 /// The bytes of the entry at an index.
@@ -57,22 +63,22 @@ fn copy_front(bytes: &[u8], most: usize, buf: &mut [u8]) -> usize
     count
 }
 
-/// Reads on at a place: as many bytes as fit into the buffer, at most `most`.
-pub fn read_on(entries: &[Entry], place: &mut Place, most: usize, buf: &mut [u8]) -> usize
-    ensures count { result ≡ min most (min (length buf.new) (length (rest_at entries.now place.old))) }
-    ensures copied { take result buf.new ≡ take result (rest_at entries.now place.old) }
-    ensures moved { place.new ≡ record place.old { taken = place.old.taken + result } }
+/// Reads on from a cursor: as many bytes as fit into the buffer, at most `most`.
+pub fn read_on(entries: &[Entry], cursor: &mut Cursor, most: usize, buf: &mut [u8]) -> usize
+    ensures count { result ≡ min most (min (length buf.new) (length (rest_at entries.now cursor.old))) }
+    ensures copied { take result buf.new ≡ take result (rest_at entries.now cursor.old) }
+    ensures moved { cursor.new ≡ record cursor.old { taken = cursor.old.taken + result } }
 {
-    let bytes = bytes_at(entries, place.entry);
-    if place.taken >= bytes.len() {
+    let bytes = bytes_at(entries, cursor.entry);
+    if cursor.taken >= bytes.len() {
         return 0;
     }
-    let count = copy_front(&bytes[place.taken..], most, buf);
-    place.taken += count;
+    let count = copy_front(&bytes[cursor.taken..], most, buf);
+    cursor.taken += count;
     count
 }
 
-/// Adds an entry behind the others.
+/// Adds an entry behind the others. Fails only if memory runs out, and changes nothing then.
 pub fn add(
     alloc: Global,
     entries: &mut Vec<Entry>,
@@ -82,14 +88,8 @@ pub fn add(
     ensures ok { OnOk result (AddsEntry entries.old.items entries.new.items name.now bytes.now) }
     ensures err { OnErr result (entries.new.items ≡ entries.old.items) }
 {
-    let Ok(name) = String::from_str(alloc, name) else {
-        return Err(NoMemory);
-    };
-    let Ok(bytes) = bytes.to_vec(alloc) else {
-        return Err(NoMemory);
-    };
-    match entries.push(Entry { name, bytes }) {
-        Ok(()) => Ok(()),
-        Err(_) => Err(NoMemory),
-    }
+    let name = String::from_str(alloc, name)?;
+    let bytes = bytes.to_vec(alloc)?;
+    entries.push(Entry { name, bytes })?;
+    Ok(())
 }

@@ -1,4 +1,5 @@
-// The real files and standard input.
+//! The real files and standard input.
+
 ghost use Rattle.std.specs.Prelude.{◌≡◌, ◌≢◌, ◌<◌, ◌≤◌, ◌↔◌, is_some, true, false, not, ◌||◌, codes, length, IsOk, OnOk, OnErr, IfOk};
 ghost use Rattle.std.specs.Io.{ReadsAtMost};
 ghost use Rattle.std.specs.Io.KnownBytes.{ReadConsumes};
@@ -8,7 +9,7 @@ ghost use Rattle.edge_io.specs.Causes.{Counts, Opening, Reading, ShelfCause};
 ghost use Rattle.edge_io.specs.Seats.{OthersKeep};
 ghost use Rattle.edge_io.specs.Source.{source_left};
 
-use crate::places::Places;
+use crate::per_seat::PerSeat;
 use crate::{Failed, Seat, Shelf};
 use std::io;
 use std::io::{Input, Read};
@@ -29,7 +30,7 @@ enum Source<F: Read + Drop, I: Read + Drop> {
 #[derive(Drop)]
 pub struct FileShelf<'a, R: Files + Input> {
     rt: &'a R,
-    places: Places<Option<Source<R::File, R::Reader>>>,
+    sources: PerSeat<Option<Source<R::File, R::Reader>>>,
     standard_taken: bool,
     faults: u64,
 }
@@ -45,7 +46,7 @@ impl<'a, R: Files + Input> FileShelf<'a, R> {
     {
         FileShelf {
             rt,
-            places: Places {
+            sources: PerSeat {
                 a: None,
                 b: None,
                 c: None,
@@ -76,14 +77,14 @@ impl<'a, R: Files + Input> FileShelf<'a, R> {
 }
 
 fn read_source<F: Read + Drop, I: Read + Drop>(
-    place: &mut Option<Source<F, I>>,
+    source: &mut Option<Source<F, I>>,
     buf: &mut [u8],
 ) -> io::Result<usize>
     ensures bound { ReadsAtMost result buf.new }
-    ensures bytes { ReadConsumes (source_left F.remaining I.remaining place.old) (source_left F.remaining I.remaining place.new) result buf.new }
-    ensures open { is_some place.new ≡ is_some place.old }
+    ensures bytes { ReadConsumes (source_left F.remaining I.remaining source.old) (source_left F.remaining I.remaining source.new) result buf.new }
+    ensures open { is_some source.new ≡ is_some source.old }
 {
-    match place {
+    match source {
         Some(Source::File(file)) => file.read(buf),
         Some(Source::Standard(input)) => input.read(buf),
         None => Ok(0),
@@ -109,15 +110,17 @@ impl<'a, R: Files + Input> Shelf for FileShelf<'a, R> {
         ensures standard_kept { name.now ≢ codes "-" → standard_was_opened self.new ≡ standard_was_opened self.old }
         ensures opened { OnOk result (is_seat_open self.new seat ≡ true) }
         ensures closed { OnErr result (is_seat_open self.new seat ≡ false) }
-        ensures kept { OnErr result (known_left R.File.remaining R.Reader.remaining self.new seat ≡ known_left R.File.remaining R.Reader.remaining self.old seat) }
+        ensures kept { OnErr result
+            (known_left R.File.remaining R.Reader.remaining self.new seat ≡ known_left R.File.remaining R.Reader.remaining self.old seat) }
         ensures other_open { OthersKeep seat (is_seat_open self.old) (is_seat_open self.new) }
-        ensures other_left { OthersKeep seat (known_left R.File.remaining R.Reader.remaining self.old) (known_left R.File.remaining R.Reader.remaining self.new) }
+        ensures other_left { OthersKeep seat (known_left R.File.remaining R.Reader.remaining self.old)
+            (known_left R.File.remaining R.Reader.remaining self.new) }
         ensures counts { Counts (fault_count self.old) (fault_count self.new) result }
         ensures cause { ShelfCause (Opening seat name.now) (λ _. fault_count self.old) (λ _. fault_count self.new) result }
     {
         match self.source(name) {
             Some(source) => {
-                self.places.set(seat, Some(source));
+                self.sources.set(seat, Some(source));
                 Ok(())
             }
             None => {
@@ -135,16 +138,18 @@ impl<'a, R: Files + Input> Shelf for FileShelf<'a, R> {
         ensures standard { standard_was_opened self.new ≡ standard_was_opened self.old }
 
         // The bytes come from what stands at the seat, where that tells its bytes.
-        ensures bytes { ReadConsumes (known_left R.File.remaining R.Reader.remaining self.old seat) (known_left R.File.remaining R.Reader.remaining self.new seat) result buf.new }
-        ensures other_left { OthersKeep seat (known_left R.File.remaining R.Reader.remaining self.old) (known_left R.File.remaining R.Reader.remaining self.new) }
+        ensures bytes { ReadConsumes (known_left R.File.remaining R.Reader.remaining self.old seat)
+            (known_left R.File.remaining R.Reader.remaining self.new seat) result buf.new }
+        ensures other_left { OthersKeep seat (known_left R.File.remaining R.Reader.remaining self.old)
+            (known_left R.File.remaining R.Reader.remaining self.new) }
         ensures counts { Counts (fault_count self.old) (fault_count self.new) result }
         ensures cause { ShelfCause (Reading seat) (λ _. fault_count self.old) (λ _. fault_count self.new) result }
     {
         let outcome = match seat {
-            Seat::A => read_source(&mut self.places.a, buf),
-            Seat::B => read_source(&mut self.places.b, buf),
-            Seat::C => read_source(&mut self.places.c, buf),
-            Seat::In => read_source(&mut self.places.input, buf),
+            Seat::A => read_source(&mut self.sources.a, buf),
+            Seat::B => read_source(&mut self.sources.b, buf),
+            Seat::C => read_source(&mut self.sources.c, buf),
+            Seat::In => read_source(&mut self.sources.input, buf),
         };
         match outcome {
             Ok(count) => Ok(count),

@@ -1,13 +1,14 @@
-// A shelf in memory, which fails where it is told to.
+//! A shelf in memory, which fails where it is told to.
+
 ghost use Rattle.std.specs.Prelude.{◌≡◌, ℕ, ◌<◌, ◌≤◌, ◌+◌, ◌-◌, ◌^◌, ◌↔◌, ◌⊎◌, List, [], length, take, min, true, false, None, Some, IsErr, IsNone, IsSomeAnd, OnOk, OnErr, IfOk, drop};
 ghost use Rattle.edge_io.specs.declared.shelf.Seat.{Seat};
 ghost use Rattle.edge_io.specs.Causes.{Counts, Opening, Reading, ShelfCause};
 ghost use Rattle.edge_io.specs.Entries.{Puts, ReadEntries};
 ghost use Rattle.edge_io.specs.Seats.{OthersKeep};
 
-use crate::due::is_due;
-use crate::entries::{Entry, Place, add, read_on, start_of};
-use crate::places::Places;
+use crate::entries::{Cursor, Entry, add, read_on, start_of};
+use crate::failure::is_due;
+use crate::per_seat::PerSeat;
 use crate::{Failed, Seat, Shelf};
 use isdbt_base::NoMemory;
 use std::alloc::Global;
@@ -19,13 +20,13 @@ use std::alloc::Global;
 pub struct MemoryShelf {
     alloc: Global,
     entries: Vec<Entry>,
-    places: Places<Option<Place>>,
+    cursors: PerSeat<Option<Cursor>>,
     most: usize,
-    fail_open: Places<bool>,
-    fail_from: Places<Option<u64>>,
+    fail_open: PerSeat<bool>,
+    fail_from: PerSeat<Option<u64>>,
     faults: u64,
     ghost gives_some: { 0 < most },
-    ghost read_entries: { ReadEntries places entries.items },
+    ghost read_entries: { ReadEntries cursors entries.items },
 }
 
 impl MemoryShelf {
@@ -43,10 +44,10 @@ impl MemoryShelf {
         MemoryShelf {
             alloc,
             entries: Vec::new(alloc),
-            places: Places::of(None),
+            cursors: PerSeat::of(None),
             most: usize::MAX,
-            fail_open: Places::of(false),
-            fail_from: Places::of(None),
+            fail_open: PerSeat::of(false),
+            fail_from: PerSeat::of(None),
             faults: 0,
         }
     }
@@ -149,7 +150,7 @@ impl Shelf for MemoryShelf {
             self.faults = self.faults.saturating_add(1);
             return Err(Failed);
         }
-        self.places.set(seat, start);
+        self.cursors.set(seat, start);
         Ok(())
     }
 
@@ -183,16 +184,16 @@ impl Shelf for MemoryShelf {
         ensures pieces { most_given self.new ≡ most_given self.old }
         ensures opens { next_open_fails self.new ≡ next_open_fails self.old }
     {
-        let Some(mut place) = self.places.at(seat) else {
+        let Some(mut cursor) = self.cursors.at(seat) else {
             unreachable!()
         };
-        if is_due(self.fail_from.at(seat), place.taken) {
+        if is_due(self.fail_from.at(seat), cursor.taken) {
             self.fail_from.set(seat, None);
             self.faults = self.faults.saturating_add(1);
             return Err(Failed);
         }
-        let count = read_on(&self.entries, &mut place, self.most, buf);
-        self.places.set(seat, Some(place));
+        let count = read_on(&self.entries, &mut cursor, self.most, buf);
+        self.cursors.set(seat, Some(cursor));
         Ok(count)
     }
 }

@@ -1,9 +1,10 @@
-// A sink in memory, which fails where it is told to.
+//! A sink in memory, which fails where it is told to.
+
 ghost use Rattle.std.specs.Prelude.{◌≡◌, ◌≤◌, ◌<◌, ◌-◌, ◌++◌, ◌↔◌, ◌⊎◌, [], None, Some, true, length, take, min, vec_len, vec_capacity, IsErr, IsSomeAnd, IfOk, OnOk, OnErr};
 ghost use Rattle.std.specs.Option.{ForSome};
 ghost use Rattle.edge_io.specs.Causes.{Counts, HasCause};
 
-use crate::due::is_due;
+use crate::failure::is_due;
 use crate::{Failed, Sink};
 use isdbt_base::NoMemory;
 use std::alloc::Global;
@@ -34,16 +35,14 @@ impl MemorySink {
         ensures never_fails { IfOk result (λ s. fails_from s ≡ None) }
         ensures count { IfOk result (λ s. fault_count s ≡ 0) }
     {
-        match Vec::with_capacity(alloc, room) {
-            Ok(bytes) => Ok(MemorySink {
-                bytes,
-                room,
-                fail_from: None,
-                may_fail: false,
-                faults: 0,
-            }),
-            Err(_) => Err(NoMemory),
-        }
+        let bytes = Vec::with_capacity(alloc, room)?;
+        Ok(MemorySink {
+            bytes,
+            room,
+            fail_from: None,
+            may_fail: false,
+            faults: 0,
+        })
     }
 
     /// What was written.

@@ -1,11 +1,12 @@
-// A shelf of which nothing fails.
+//! A shelf of which nothing fails.
+
 ghost use Rattle.std.specs.Prelude.{◌≡◌, ℕ, ◌<◌, List, [], length, take, drop, min, true, false, None, Some, Ok, IfOk, OnOk, OnErr};
 ghost use Rattle.edge_io.specs.declared.shelf.Seat.{Seat};
 ghost use Rattle.edge_io.specs.Entries.{Puts, ReadEntries};
 ghost use Rattle.edge_io.specs.Seats.{OthersKeep};
 
-use crate::entries::{Entry, Place, add, read_on, start_of};
-use crate::places::Places;
+use crate::entries::{Cursor, Entry, add, read_on, start_of};
+use crate::per_seat::PerSeat;
 use crate::{Failed, Seat, Shelf};
 use isdbt_base::NoMemory;
 use std::alloc::Global;
@@ -16,9 +17,9 @@ use std::alloc::Global;
 pub struct QuietShelf {
     alloc: Global,
     entries: Vec<Entry>,
-    opened: Places<bool>,
-    places: Places<Option<Place>>,
-    ghost read_entries: { ReadEntries places entries.items },
+    opened: PerSeat<bool>,
+    cursors: PerSeat<Option<Cursor>>,
+    ghost read_entries: { ReadEntries cursors entries.items },
 }
 
 impl QuietShelf {
@@ -32,8 +33,8 @@ impl QuietShelf {
         QuietShelf {
             alloc,
             entries: Vec::new(alloc),
-            opened: Places::of(false),
-            places: Places::of(None),
+            opened: PerSeat::of(false),
+            cursors: PerSeat::of(None),
         }
     }
 
@@ -72,7 +73,7 @@ impl Shelf for QuietShelf {
         ensures other_open { OthersKeep seat (is_seat_open self.old) (is_seat_open self.new) }
     {
         let start = start_of(&self.entries, name);
-        self.places.set(seat, start);
+        self.cursors.set(seat, start);
         self.opened.set(seat, true);
         Ok(())
     }
@@ -92,11 +93,11 @@ impl Shelf for QuietShelf {
         ensures other_left { OthersKeep seat (rest_of self.old) (rest_of self.new) }
         ensures still_open { is_seat_open self.new ≡ is_seat_open self.old }
     {
-        let Some(mut place) = self.places.at(seat) else {
+        let Some(mut cursor) = self.cursors.at(seat) else {
             return Ok(0);
         };
-        let count = read_on(&self.entries, &mut place, usize::MAX, buf);
-        self.places.set(seat, Some(place));
+        let count = read_on(&self.entries, &mut cursor, usize::MAX, buf);
+        self.cursors.set(seat, Some(cursor));
         Ok(count)
     }
 }

@@ -1,4 +1,5 @@
-// A sink that never fails.
+//! A sink that never fails.
+
 ghost use Rattle.std.specs.Prelude.{◌≡◌, ◌+◌, ◌-◌, ◌^◌, ◌<◌, min, length, Ok};
 ghost use Rattle.edge_io.specs.QuietSink.{taken_by};
 

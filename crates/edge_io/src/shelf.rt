@@ -1,4 +1,5 @@
-// Inputs: names that hold bytes, and four seats at which a name is read.
+//! Inputs: names that hold bytes, and four seats at which a name is read.
+
 ghost use Rattle.std.specs.Prelude.{◌≡◌, ℕ, ◌<◌, ◌≤◌, List, [], Bool, true, false, length, take, OnOk, OnErr, IfOk, IfSome};
 ghost use Rattle.std.specs.declared.option.Option.{Option};
 ghost use Rattle.edge_io.specs.Known.{drop_known};
@@ -9,9 +10,13 @@ ghost use Rattle.edge_io.specs.Seats.{OthersKeep};
 /// Where a command reads an input: one seat for each layer, and one for a lone input.
 #[derive(Clone, Copy, Debug, PartialEq, Eq)]
 pub enum Seat {
+    /// The seat of layer A.
     A,
+    /// The seat of layer B.
     B,
+    /// The seat of layer C.
     C,
+    /// The seat of a lone input.
     In,
 }
 

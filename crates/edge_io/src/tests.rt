@@ -1,12 +1,13 @@
-// Shelves and sinks at values worked out by hand.
-ghost use Rattle.std.specs.Prelude.{◌≡◌, ◌<◌, length, true, false, IfOk};
+//! Shelves and sinks at values worked out by hand.
+
+ghost use Rattle.std.specs.Prelude.{◌≡◌, ◌<◌, ◌≤◌, length, true, false, IfOk};
 ghost use Rattle.edge_io.specs.FileShelf.{is_seat_open as file_seat_open};
 ghost use Rattle.edge_io.specs.MemoryShelf.{is_seat_open};
 ghost use Rattle.edge_io.specs.declared.shelf.Seat.TheVariants.{A, B};
 
 use crate::{
     Failed, FileShelf, MemoryShelf, MemorySink, QuietShelf, QuietSink, Seat, Shelf, Sink,
-    StreamSink, fill, write_whole,
+    StreamSink, ends, fill, fill_behind, write_whole,
 };
 use std::alloc::Global;
 use std::io::{Error, ErrorKind, Write};
@@ -84,6 +85,34 @@ fn fills_over_pieces(rt: HostRuntime) -> Result<(), Fail> {
         assert_eq!(rt; fill_a(&mut shelf, &mut buf), Ok(3), "{most} at most");
         assert_eq!(rt; &buf[..3], b"hij".as_slice(), "{most} at most");
     }
+    Ok(())
+}
+
+fn fill_a_behind<H: Shelf>(shelf: &mut H, held: usize, buf: &mut [u8]) -> Result<usize, Failed>
+    requires open { H.is_open shelf.old A ≡ true }
+    requires held { held ≤ length buf.old }
+    ensures { H.is_open shelf.new A ≡ true }
+{
+    fill_behind(shelf, Seat::A, held, buf)
+}
+
+fn a_ends<H: Shelf>(shelf: &mut H) -> Result<bool, Failed>
+    requires { H.is_open shelf.old A ≡ true }
+    ensures { H.is_open shelf.new A ≡ true }
+{
+    ends(shelf, Seat::A)
+}
+
+#[test]
+fn fills_behind_up_to_the_end(rt: HostRuntime) -> Result<(), Fail> {
+    let mut shelf = shelf_of_ten(rt.alloc(), 3)?;
+    let mut buf = *b"12345678";
+    assert_eq!(rt; fill_a_behind(&mut shelf, 2, &mut buf), Ok(8));
+    assert_eq!(rt; buf.as_slice(), b"12abcdef".as_slice());
+    assert_eq!(rt; a_ends(&mut shelf), Ok(false));
+    assert_eq!(rt; fill_a_behind(&mut shelf, 1, &mut buf), Ok(4));
+    assert_eq!(rt; &buf[..4], b"1hij".as_slice());
+    assert_eq!(rt; a_ends(&mut shelf), Ok(true));
     Ok(())
 }
 

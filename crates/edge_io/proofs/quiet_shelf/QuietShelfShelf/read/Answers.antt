@@ -1,11 +1,11 @@
 use Rattle.std.proofs.Common.{◌<◌, length, Some, sym, ◌∙◌}
-use Rattle.edge_io.proofs.PlaceLemmas.{entries_read_at_each}
+use Rattle.edge_io.proofs.SeatLemmas.{entries_read_at_each}
 use Rattle.edge_io.proofs.quiet_shelf.QuietShelfShelf.read.Goals as goal
 
 pub invariant_of-self : goal.invariant_of-self
 invariant_of-self c = record {
   read_entries =
-      let had = c.args.self.now.read_entries c.args.seat c.in-Some.place (sym c.at.ensures ∙ c.in-Some.is) in
-      let within : c.read_on-count.new.place.entry < length c.args.self.now.entries.items = rw c.read_on-count.ensures.moved had in
-      rw c.set.ensures (entries_read_at_each _ _ c.args.seat (Some c.read_on-count.new.place) c.args.self.now.read_entries within);
+      let had = c.args.self.now.read_entries c.args.seat c.in-Some.cursor (sym c.at.ensures ∙ c.in-Some.is) in
+      let within : c.read_on-count.new.cursor.entry < length c.args.self.now.entries.items = rw c.read_on-count.ensures.moved had in
+      rw c.set.ensures (entries_read_at_each _ _ c.args.seat (Some c.read_on-count.new.cursor) c.args.self.now.read_entries within);
 }

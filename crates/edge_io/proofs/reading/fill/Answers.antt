@@ -2,7 +2,7 @@ use Rattle.std.proofs.Common.{rules, ◌∙◌, ap, arith}
 use Rattle.std.proofs.lemmas.Result.{err_from_is_err_and}
 use Rattle.edge_io.specs.Known.{drop_known}
 use Rattle.edge_io.proofs.Known.{drop_known_twice, copied_more, within_more}
-use Rattle.edge_io.proofs.whole.fill.Goals as goal
+use Rattle.edge_io.proofs.reading.fill.Goals as goal
 
 pub loop-at-preserved : goal.loop-at-preserved
 loop-at-preserved g c =

@@ -1,27 +1,33 @@
-// One value for each seat.
+//! One value for each seat.
+
 ghost use Rattle.std.specs.Prelude.{◌≡◌};
 ghost use Rattle.edge_io.specs.declared.shelf.Seat.{Seat};
 
 use crate::Seat;
 
+/// One value for each seat.
 #[derive(Clone, Copy, Drop)]
-pub struct Places<T> {
+pub struct PerSeat<T> {
+    /// Of the seat A.
     pub a: T,
+    /// Of the seat B.
     pub b: T,
+    /// Of the seat C.
     pub c: T,
+    /// Of the seat In.
     pub input: T,
 }
 
-impl<T> Places<T> {
-    ghost use Rattle.edge_io.specs.Places.{place_at, with_place};
+impl<T> PerSeat<T> {
+    ghost use Rattle.edge_io.specs.PerSeat.{at_seat, with_seat};
 
     /// The same value at each seat.
-    pub fn of(value: T) -> Places<T>
+    pub fn of(value: T) -> PerSeat<T>
     where
         T: Copy,
-        ensures { (seat : Seat) → place_at result seat ≡ value }
+        ensures { (seat : Seat) → at_seat result seat ≡ value }
     {
-        Places {
+        PerSeat {
             a: value,
             b: value,
             c: value,
@@ -29,10 +35,11 @@ impl<T> Places<T> {
         }
     }
 
+    /// Gives a seat this value; the others keep theirs.
     pub fn set(&mut self, seat: Seat, value: T)
     where
         T: Drop,
-        ensures { self.new ≡ with_place self.old seat value }
+        ensures { self.new ≡ with_seat self.old seat value }
     {
         match seat {
             Seat::A => self.a = value,
@@ -42,10 +49,11 @@ impl<T> Places<T> {
         }
     }
 
+    /// The value of a seat.
     pub fn at(&self, seat: Seat) -> T
     where
         T: Copy,
-        ensures { result ≡ place_at self.now seat }
+        ensures { result ≡ at_seat self.now seat }
     {
         match seat {
             Seat::A => self.a,

@@ -5,15 +5,15 @@ use Rattle.std.specs.declared.option.Option.{Option}
 use Rattle.std.specs.Option.{ForSome}
 use Rattle.edge_io.specs.declared.shelf.Seat.{Seat}
 use Rattle.edge_io.specs.declared.shelf.Seat.TheVariants.{A, B, C, In}
-use Rattle.edge_io.specs.declared.places.Places.{Places}
+use Rattle.edge_io.specs.declared.per_seat.PerSeat.{PerSeat}
 use Rattle.edge_io.specs.declared.entries.Entry.{Entry}
-use Rattle.edge_io.specs.declared.entries.Place.{Place}
+use Rattle.edge_io.specs.declared.entries.Cursor.{Cursor}
 use Rattle.edge_io.specs.Entries.{ReadEntries}
-use Rattle.edge_io.specs.Places.{place_at, with_place}
+use Rattle.edge_io.specs.PerSeat.{at_seat, with_seat}
 
 -- what holds of the new value, and held of each old one, holds at each seat
-pub kept_at_each : {T : Type 0} (P : T → Type 0) (p : Places T) (seat : Seat) (value : T) → P value
-    → ((any : Seat) → P (place_at p any)) → (any : Seat) → P (place_at (with_place p seat value) any)
+pub kept_at_each : {T : Type 0} (P : T → Type 0) (p : PerSeat T) (seat : Seat) (value : T) → P value
+    → ((any : Seat) → P (at_seat p any)) → (any : Seat) → P (at_seat (with_seat p seat value) any)
 kept_at_each P p A value here before A = here
 kept_at_each P p A value here before B = before B
 kept_at_each P p A value here before C = before C
@@ -31,9 +31,9 @@ kept_at_each P p In value here before B = before B
 kept_at_each P p In value here before C = before C
 kept_at_each P p In value here before In = here
 
--- each open seat reads an entry after a write of a place, or of none, that is in the entries
-pub entries_read_at_each : (places : Places (Option Place)) (entries : List Entry) (seat : Seat) (place : Option Place)
-    → ReadEntries places entries → IfSome place (λ p. p.entry < length entries) → ReadEntries (with_place places seat place) entries
-entries_read_at_each places entries seat place before within =
-    kept_at_each (λ o. ForSome o (λ p. p.entry < length entries)) places seat place
+-- each open seat reads an entry after a write of a cursor, or of none, that is in the entries
+pub entries_read_at_each : (cursors : PerSeat (Option Cursor)) (entries : List Entry) (seat : Seat) (cursor : Option Cursor)
+    → ReadEntries cursors entries → IfSome cursor (λ p. p.entry < length entries) → ReadEntries (with_seat cursors seat cursor) entries
+entries_read_at_each cursors entries seat cursor before within =
+    kept_at_each (λ o. ForSome o (λ p. p.entry < length entries)) cursors seat cursor
     (λ x is. MatchOption-at_some _ _ x is within) before

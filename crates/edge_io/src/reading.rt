@@ -1,10 +1,12 @@
-// Reads and writes that go on until all is done.
-ghost use Rattle.std.specs.Prelude.{◌≡◌, ℕ, ◌+◌, ◌++◌, [], ◌<◌, ◌≤◌, true, length, take, min, OnOk, OnErr, IfOk, IfSome};
-ghost use Rattle.edge_io.specs.Known.{drop_known, append_known, ReachesRoom};
-ghost use Rattle.edge_io.specs.Causes.{Reading, ShelfCause, HasCause};
-ghost use Rattle.edge_io.specs.Seats.{OthersKeep};
+//! Reads that go on until a buffer is full or the input ends.
 
-use crate::{Failed, Seat, Shelf, Sink};
+ghost use Rattle.std.specs.Prelude.{◌≡◌, ℕ, List, ◌+◌, ◌++◌, [], ◌<◌, ◌≤◌, Some, true, length, take, min, OnErr, IfOk, IfSome};
+ghost use Rattle.edge_io.specs.Known.{drop_known};
+ghost use Rattle.edge_io.specs.Causes.{Reading, ShelfCause};
+ghost use Rattle.edge_io.specs.Seats.{OthersKeep};
+ghost use Rattle.edge_io.specs.Reading.{FillAnswer, EndsAnswer};
+
+use crate::{Failed, Seat, Shelf};
 
 /// Reads once, behind the first `at` bytes of the buffer.
 fn read_behind<H: Shelf>(
@@ -63,24 +65,40 @@ pub fn fill<H: Shelf>(shelf: &mut H, seat: Seat, buf: &mut [u8]) -> Result<usize
     Ok(at)
 }
 
-/// Writes all of the bytes, also where each write takes some of them.
+/// Reads until the buffer is full or the input ends, behind its first `held` bytes, and answers how many bytes it holds.
 ///
-/// It fails where a write fails, and writes no more then.
-pub fn write_whole<K: Sink>(sink: &mut K, bytes: &[u8]) -> Result<(), Failed>
-    ensures ok { OnOk result (K.written sink.new ≡ append_known (K.written sink.old) bytes.now) }
-
-    // After a failure it has written the first n bytes, fewer than all.
-    ensures some { OnErr result ((n : ℕ) × (n < length bytes.now) × (K.written sink.new ≡ append_known (K.written sink.old) (take n bytes.now))) }
-    ensures room { K.room sink.new ≡ K.room sink.old }
-
-    // Where room and content are told, it fails only where what was written reaches the room.
-    ensures reached { OnErr result (ReachesRoom (K.room sink.old) (K.written sink.new)) }
-    ensures cause { HasCause (K.faults sink.old) (K.faults sink.new) result }
+/// It fails where a read fails, and reads no more then. The first `held` bytes stay.
+pub fn fill_behind<H: Shelf>(
+    shelf: &mut H,
+    seat: Seat,
+    held: usize,
+    buf: &mut [u8],
+) -> Result<usize, Failed>
+    requires is_open { H.is_open shelf.old seat ≡ true }
+    requires held { held ≤ length buf.old }
+    ensures names { H.holds shelf.new ≡ H.holds shelf.old }
+    ensures other_left { OthersKeep seat (H.left shelf.old) (H.left shelf.new) }
+    ensures still_open { H.is_open shelf.new ≡ H.is_open shelf.old }
+    ensures least { IfOk result (λ n. held ≤ n) }
+    ensures most { IfOk result (λ n. n ≤ length buf.new) }
+    ensures answer { (bytes : List ℕ) → H.left shelf.old seat ≡ Some bytes
+        → FillAnswer held buf.old buf.new bytes (H.left shelf.new seat) result }
+    ensures cause { ShelfCause (Reading seat) (H.faults shelf.old) (H.faults shelf.new) result }
 {
-    let mut at = 0;
-    while at < bytes.len() {
-        let count = sink.write(&bytes[at..])?;
-        at += count;
-    }
-    Ok(())
+    let count = fill(shelf, seat, &mut buf[held..])?;
+    Ok(held + count)
+}
+
+/// Whether the input at a seat has ended: asks for one byte more, which is then taken where there is one.
+pub fn ends<H: Shelf>(shelf: &mut H, seat: Seat) -> Result<bool, Failed>
+    requires { H.is_open shelf.old seat ≡ true }
+    ensures names { H.holds shelf.new ≡ H.holds shelf.old }
+    ensures other_left { OthersKeep seat (H.left shelf.old) (H.left shelf.new) }
+    ensures still_open { H.is_open shelf.new ≡ H.is_open shelf.old }
+    ensures answer { (bytes : List ℕ) → H.left shelf.old seat ≡ Some bytes → EndsAnswer bytes (H.left shelf.new seat) result }
+    ensures cause { ShelfCause (Reading seat) (H.faults shelf.old) (H.faults shelf.new) result }
+{
+    let mut byte = [0u8; 1];
+    let count = shelf.read(seat, &mut byte)?;
+    Ok(count == 0)
 }

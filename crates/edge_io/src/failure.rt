@@ -1,4 +1,5 @@
-// When a call in memory fails because it was told to.
+//! When a call in memory fails because it was told to.
+
 ghost use Rattle.std.specs.Prelude.{◌≤◌, ◌↔◌, IsTrue, IsSomeAnd};
 
 /// Whether a call that finds so many bytes done is to fail from a byte.
