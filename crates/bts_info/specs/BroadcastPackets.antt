@@ -1,4 +1,4 @@
--- Broadcast packets of 204 bytes (after ARIB STD-B31 5.5).
+-- Broadcast packets of 204 bytes (after the broadcast TS of ARIB STD-B31).
 use Rattle.std.specs.Prelude.{ℕ, List, ◌++◌, replicate, flat_map, Option}
 use Rattle.std.specs.List.{range_with_len}
 use Rattle.isdbt_base.specs.declared.kinds.Layer.{Layer}

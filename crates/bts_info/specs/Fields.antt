@@ -1,4 +1,4 @@
--- The fields of the information of a broadcast packet (after ARIB STD-B31 5.5), and what a frame's packets bear alike.
+-- The fields of the information of a broadcast packet, and what a frame's packets bear alike.
 use Rattle.std.specs.Prelude.{ℕ, ◌<◌, ◌^◌, Bool}
 
 -- the fields in their order

@@ -1,4 +1,4 @@
--- The information of a broadcast packet, eight bytes after the packet, in this project's own layout (after ARIB STD-B31 5.5).
+-- The information of a broadcast packet, eight bytes after the packet, in this project's own layout.
 use Rattle.std.specs.Prelude.{ℕ, ◌+◌, ◌*◌, ◌/◌, ◌%◌, List, ◌∷◌, ◌++◌, slice_index, Bool, true, false, ◌==◌, ◌&&◌, ◌^◌, ◌-◌, if◌then◌else◌, Option, Some, None}
 use Rattle.std.specs.Int.{w16, w32, from_bool, to_be_bytes, bit_at}
 use Rattle.isdbt_base.specs.declared.kinds.Layer.{Layer}

@@ -2,7 +2,7 @@
 
 use std::marker::Model;
 
-/// What the information of all packets of a frame bears alike (after ARIB STD-B31 5.5). Its countdown is at most 15.
+/// What the information of all packets of a frame bears alike. Its countdown is at most 15.
 #[derive(Clone, Copy, Debug, PartialEq, Eq)]
 pub struct FrameTag {
     /// Frame indicator, 1 bit: set in odd frames.
@@ -11,7 +11,7 @@ pub struct FrameTag {
     pub first: bool,
     /// Emergency switch-on, 1 bit.
     pub start_up: bool,
-    /// Countdown to a switch of parameters, 4 bits (ARIB STD-B31 3.15.6.2).
+    /// Countdown to a switch of parameters, 4 bits.
     pub countdown: u8,
 }
 

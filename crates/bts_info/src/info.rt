@@ -2,7 +2,7 @@
 
 use std::marker::Model;
 
-/// Fields of the information, in their order, each in the range of its bits (after ARIB STD-B31 5.5).
+/// Fields of the information, in their order, each in the range of its bits.
 #[derive(Clone, Copy, Debug, PartialEq, Eq)]
 pub struct Info {
     /// TMCC identifier, 2 bits: 2 in what is written.
@@ -38,9 +38,51 @@ impl Model for Info {
 
     ghost Value = { Fields };
 
-    ghost view = { λ i. record { identifier = i.identifier; reserved = i.reserved; buffer_reset = i.buffer_reset; start_up = i.start_up; first = i.first; head = i.head; odd = i.odd; layer = i.layer; countdown = i.countdown; ac_invalid = i.ac_invalid; ac_effective = i.ac_effective; counter = i.counter; ac = i.ac } };
+    ghost view = { λ i. record {
+      identifier = i.identifier;
+      reserved = i.reserved;
+      buffer_reset = i.buffer_reset;
+      start_up = i.start_up;
+      first = i.first;
+      head = i.head;
+      odd = i.odd;
+      layer = i.layer;
+      countdown = i.countdown;
+      ac_invalid = i.ac_invalid;
+      ac_effective = i.ac_effective;
+      counter = i.counter;
+      ac = i.ac;
+    } };
 
-    ghost invariant = { λ i. FitsFields (record { identifier = i.identifier; reserved = i.reserved; buffer_reset = i.buffer_reset; start_up = i.start_up; first = i.first; head = i.head; odd = i.odd; layer = i.layer; countdown = i.countdown; ac_invalid = i.ac_invalid; ac_effective = i.ac_effective; counter = i.counter; ac = i.ac }) };
+    ghost invariant = { λ i. FitsFields (record {
+      identifier = i.identifier;
+      reserved = i.reserved;
+      buffer_reset = i.buffer_reset;
+      start_up = i.start_up;
+      first = i.first;
+      head = i.head;
+      odd = i.odd;
+      layer = i.layer;
+      countdown = i.countdown;
+      ac_invalid = i.ac_invalid;
+      ac_effective = i.ac_effective;
+      counter = i.counter;
+      ac = i.ac;
+    }) };
 
-    ghost inverse = { λ i. record { identifier = i.identifier; reserved = i.reserved; buffer_reset = i.buffer_reset; start_up = i.start_up; first = i.first; head = i.head; odd = i.odd; layer = i.layer; countdown = i.countdown; ac_invalid = i.ac_invalid; ac_effective = i.ac_effective; counter = i.counter; ac = i.ac } };
+    ghost inverse = { λ i. record {
+      identifier = i.identifier;
+      reserved = i.reserved;
+      buffer_reset = i.buffer_reset;
+      start_up = i.start_up;
+      first = i.first;
+      head = i.head;
+      odd = i.odd;
+      layer = i.layer;
+      countdown = i.countdown;
+      ac_invalid = i.ac_invalid;
+      ac_effective = i.ac_effective;
+      counter = i.counter;
+      ac = i.ac;
+    } };
 }

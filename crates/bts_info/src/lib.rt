@@ -1,5 +1,5 @@
-//! Information of a broadcast packet: eight bytes that follow the 188 bytes of a transport packet (after ARIB STD-B31
-//! 5.5), before eight bytes FF.
+//! Information of a broadcast packet: eight bytes that follow the 188 bytes of a transport packet (after the
+//! broadcast TS of ARIB STD-B31), before eight bytes FF.
 //!
 //! The layout is this project's own profile, not the standard's. The fields in order, each from its highest bit:
 //!

@@ -14,6 +14,15 @@ fn first_even() -> FrameTag {
     }
 }
 
+/// A slot of a frame with this tag, and the first four bytes of its information.
+#[derive(Clone, Copy)]
+struct SlotRow {
+    tag: FrameTag,
+    layer: Option<Layer>,
+    slot: u32,
+    head: [u8; 4],
+}
+
 #[test]
 fn written_slots(rt: HostRuntime) -> Result<(), Fail> {
     let odd = FrameTag {
@@ -24,12 +33,37 @@ fn written_slots(rt: HostRuntime) -> Result<(), Fail> {
     };
     let ones = 0xFF;
     let table = [
-        (first_even(), None, 0, [0xA6, 0x0F, 0xE0, 0x00]),
-        (first_even(), Some(Layer::A), 8, [0xA0, 0x1F, 0xE0, 0x08]),
-        (odd, None, 0, [0xAB, 0x02, 0xE0, 0x00]),
-        (odd, Some(Layer::C), 0x1234, [0xA9, 0x32, 0xF2, 0x34]),
+        SlotRow {
+            tag: first_even(),
+            layer: None,
+            slot: 0,
+            head: [0xA6, 0x0F, 0xE0, 0x00],
+        },
+        SlotRow {
+            tag: first_even(),
+            layer: Some(Layer::A),
+            slot: 8,
+            head: [0xA0, 0x1F, 0xE0, 0x08],
+        },
+        SlotRow {
+            tag: odd,
+            layer: None,
+            slot: 0,
+            head: [0xAB, 0x02, 0xE0, 0x00],
+        },
+        SlotRow {
+            tag: odd,
+            layer: Some(Layer::C),
+            slot: 0x1234,
+            head: [0xA9, 0x32, 0xF2, 0x34],
+        },
     ];
-    for (tag, layer, slot, head) in table {
+    for SlotRow {
+        tag,
+        layer,
+        slot,
+        head,
+    } in table {
         let info = info_of(&tag, layer, slot);
         let bytes = [head[0], head[1], head[2], head[3], ones, ones, ones, ones];
         assert_eq!(rt; to_bytes(&info), bytes);

@@ -13,7 +13,11 @@ use Rattle.frame_order.specs.Places.{place_of}
 
 -- packet j of a layer that is used, where so many cells and packets of other layers stand before the layer's
 abbrev pub timed_in : Mode → Guard → Layer → LayerParameters → ℕ → ℕ → ℕ → Timed
-timed_in mode guard x l cells packets j = record { clock = cell_clock mode guard l cells (last_cell l j); place = packets + j; mark = record { layer = x; index = j } }
+timed_in mode guard x l cells packets j = record {
+  clock = cell_clock mode guard l cells (last_cell l j);
+  place = packets + j;
+  mark = record { layer = x; index = j };
+}
 
 -- a packet with its clock and its place
 abbrev pub timed_of : Mode → Guard → Parameters → Mark → Timed

@@ -20,4 +20,5 @@ marked_packet packet (Some m) = packet m.layer m.index
 -- the broadcast packets of a frame, from packet j of each layer
 unfoldable pub ordered_frame : Mode → Guard → Parameters → Tag → (Layer → ℕ → List ℕ) → List ℕ
 ordered_frame mode guard s tag packet =
-    broadcast_frame (slots_per_frame mode guard) tag (λ k. option_map (λ m. m.layer) (mark_at mode guard s k)) (λ k. marked_packet packet (mark_at mode guard s k))
+    broadcast_frame (slots_per_frame mode guard) tag (λ k. option_map (λ m. m.layer) (mark_at mode guard s k))
+    (λ k. marked_packet packet (mark_at mode guard s k))

@@ -11,17 +11,16 @@ use crate::frame_order::FrameOrder;
 use crate::layer_packets::LayerPackets;
 use crate::mark::Mark;
 use bts_info::{FrameTag, info_of, to_bytes};
-use isdbt_base::Layer;
-use ts_packet::Packet;
+use isdbt_base::{Layer, put};
+use ts_packet::{PACKET_BYTES, Packet};
 
-const PACKET_BYTES: usize = 188;
-
+/// The bytes behind the information of a slot.
 const STUFFING: [u8; 8] = [0xFF; 8];
 
 impl FrameOrder {
     /// Writes the broadcast packets of the frame, 204 bytes for each slot in their order: the slot's packet, or the null
-    /// packet where no layer has the slot or the layer has fewer packets; the information of the slot; and eight bytes FF
-    /// (after ARIB STD-B31 5.5). `out` has just these bytes' room.
+    /// packet where no layer has the slot or the layer has fewer packets; the information of the slot; and eight bytes FF.
+    /// `out` has just these bytes' room.
     pub fn write(&self, tag: &FrameTag, packets: &LayerPackets, out: &mut [u8])
         requires whole { AreWhole packets.now }
         requires room { length out.old ≡ 204 * slots_per_frame self.now.mode self.now.guard }
@@ -39,12 +38,14 @@ impl FrameOrder {
     }
 }
 
+/// The layer that a mark names.
 fn layer_of(mark: Option<Mark>) -> Option<Layer>
     ensures { result ≡ option_map (λ m. m.layer) mark }
 {
     mark.map(|mark| mark.layer)
 }
 
+/// The packets of a layer.
 fn bytes_of<'a>(packets: &LayerPackets<'a>, layer: Layer) -> &'a [u8]
     requires { AreWhole packets.now }
     ensures whole { length result.now % packet_bytes ≡ 0 }
@@ -73,21 +74,11 @@ fn piece_of(bytes: &[u8], index: u32) -> Option<&[u8]>
 /// The packet that a mark names, or None where that is the null packet.
 fn packet_of<'a>(mark: Option<Mark>, packets: &LayerPackets<'a>) -> Option<&'a [u8]>
     requires { AreWhole packets.now }
-    ensures { MatchOption result (marked_packet (layer_packet packets.now) mark ≡ null_packet) (λ p. (p.now ≡ marked_packet (layer_packet packets.now) mark) × (length p.now ≡ packet_bytes)) }
+    ensures { MatchOption result (marked_packet (layer_packet packets.now) mark ≡ null_packet)
+        (λ p. (p.now ≡ marked_packet (layer_packet packets.now) mark) × (length p.now ≡ packet_bytes)) }
 {
     let mark = mark?;
     piece_of(bytes_of(packets, mark.layer), mark.index)
-}
-
-/// Puts bytes behind the first `at` bytes, and says where they end.
-fn put(out: &mut [u8], at: usize, part: &[u8]) -> usize
-    requires { at + length part.now ≤ length out.old }
-    ensures end { result ≡ at + length part.now }
-    ensures bytes { take result out.new ≡ take at out.old ++ part.now }
-{
-    let end = at + part.len();
-    out[at..end].copy_from_slice(part);
-    end
 }
 
 /// Puts the packet that a mark names behind the first `at` bytes, and says where it ends.

@@ -85,7 +85,8 @@ fn push_used(
 ) -> Result<(), NoMemory>
     requires cells { cells ≤ 9984 }
     requires packets { packets ≤ 6552 }
-    ensures { OnOk result (timed.new.items ≡ timed.old.items ++ map (timed_in mode guard layer used.now cells packets) (range_with_len 0 (packets_per_frame mode used.now))) }
+    ensures { OnOk result (timed.new.items ≡ timed.old.items
+        ++ map (timed_in mode guard layer used.now cells packets) (range_with_len 0 (packets_per_frame mode used.now))) }
 {
     for index in 0..used.packets(mode) {
         let packet = timed_packet(mode, guard, layer, used, cells, packets, index);
@@ -112,7 +113,7 @@ fn push_layer(
     }
 }
 
-/// All packets of a frame, in the order of their clocks.
+/// All packets of a frame, in the order of their clocks. Fails only if memory runs out.
 pub fn in_clock_order(
     alloc: Global,
     setting: &Setting,

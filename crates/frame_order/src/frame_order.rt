@@ -9,7 +9,7 @@ use std::alloc::Global;
 use std::marker::Model;
 
 /// Packet of each slot of a frame, and slot of each packet, for one mode, guard interval and setting (after
-/// ARIB STD-B31 5.4).
+/// the model receiver of ARIB STD-B31).
 #[derive(Debug, Drop)]
 pub struct FrameOrder {
     setting: Setting,
@@ -66,7 +66,7 @@ impl FrameOrder {
     }
 }
 
-/// The order of the packets of a frame. It fails only for want of memory.
+/// The order of the packets of a frame. Fails only if memory runs out.
 pub fn order(
     alloc: Global,
     setting: &Setting,

@@ -29,7 +29,8 @@ pub fn rising_law(
 )
     requires order { first < second }
     requires second { second < number_of (packets_per_frame mode) (layer_of setting.now layer) }
-    ensures { slot_of mode guard setting.now (record { layer = layer; index = first }) < slot_of mode guard setting.now (record { layer = layer; index = second }) }
+    ensures { slot_of mode guard setting.now (record { layer = layer; index = first })
+        < slot_of mode guard setting.now (record { layer = layer; index = second }) }
 {
     setting.acceptance_law();
 }

@@ -2,7 +2,7 @@
 
 use isdbt_base::Layer;
 
-/// Packet of a frame, by its layer and its place among the layer's packets of the frame.
+/// Packet of a frame, by its layer and its number among the layer's packets of the frame.
 #[derive(Clone, Copy, Debug, PartialEq, Eq)]
 pub struct Mark {
     /// Hierarchical layer.

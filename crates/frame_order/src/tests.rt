@@ -170,9 +170,10 @@ fn partial_and_wide_layer(rt: HostRuntime) -> Result<(), Fail> {
             index,
         })
     };
-    for (slot, mark) in [(0, None), (1, None), (2, b(0)), (3, b(1))] {
-        assert_eq!(rt; frame.mark(slot), mark, "slot {slot}");
-    }
+    assert_eq!(rt; frame.mark(0), None);
+    assert_eq!(rt; frame.mark(1), None);
+    assert_eq!(rt; frame.mark(2), b(0));
+    assert_eq!(rt; frame.mark(3), b(1));
     assert_eq!(rt; frame.slot(Layer::A, 0), 68);
     Ok(())
 }
@@ -196,8 +197,8 @@ fn layers_with_too_few_packets(rt: HostRuntime) -> Result<(), Fail> {
     expect_slot(&rt, &out, 0, &null(), [0xAB, 0x03, 0xE0, 0x00])?;
     expect_slot(&rt, &out, 2, &null(), [0xA9, 0x23, 0xE0, 0x02])?;
     expect_slot(&rt, &out, 68, &numbered(9), [0xA9, 0x13, 0xE0, 0x44])?;
-    for (layer, slots) in [(Some(Layer::A), 64), (Some(Layer::B), 2592), (None, 1952)] {
-        assert_eq!(rt; named_slots(&rt, &out, 4608, layer)?, slots);
-    }
+    assert_eq!(rt; named_slots(&rt, &out, 4608, Some(Layer::A))?, 64);
+    assert_eq!(rt; named_slots(&rt, &out, 4608, Some(Layer::B))?, 2592);
+    assert_eq!(rt; named_slots(&rt, &out, 4608, None)?, 1952);
     Ok(())
 }

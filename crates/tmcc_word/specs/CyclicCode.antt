@@ -1,4 +1,4 @@
--- The shortened (184,102) difference-set cyclic code (ARIB STD-B31 3.15.6). A polynomial over two elements is the number
+-- The shortened (184,102) difference-set cyclic code (ARIB STD-B31 chapter 3). A polynomial over two elements is the number
 -- whose bit i is the coefficient of x^i, or the list of its coefficients, the highest first.
 use Rattle.std.specs.Prelude.{◌≡◌, ℕ, zero, suc, ◌+◌, ◌*◌, ◌^◌, Bool, if◌then◌else◌, ◌==◌, List, [], ◌∷◌, length, bit_xor}
 use Rattle.std.specs.Int.{bit_at}
@@ -8,7 +8,7 @@ use Rattle.isdbt_base.specs.Bits.{number_bits, bits_number, ◌⊕◌}
 abbrev pub generator : ℕ
 generator = 2 ^ 82 + 2 ^ 77 + 2 ^ 76 + 2 ^ 71 + 2 ^ 67 + 2 ^ 66 + 2 ^ 56 + 2 ^ 52 + 2 ^ 48 + 2 ^ 40 + 2 ^ 36 + 2 ^ 34 + 2 ^ 24 + 2 ^ 22 + 2 ^ 18 + 2 ^ 10 + 2 ^ 4 + 1
 
--- the product of the generator and a polynomial: the sum of the generator's shifts to the places of ones
+-- the product of the generator and a polynomial: the sum of the generator's shifts to the positions of its ones
 unfoldable pub generator_times : List Bool → ℕ
 generator_times [] = 0
 generator_times (q ∷ qs) = bit_xor (if q then generator * 2 ^ length qs else 0) (generator_times qs)

@@ -1,4 +1,4 @@
--- What a TMCC word says (ARIB STD-B31 3.15).
+-- What a TMCC word says (ARIB STD-B31 chapter 3).
 use Rattle.std.specs.Prelude.{ℕ, ◌<◌, Bool, Option, Some, None}
 use Rattle.isdbt_base.specs.Parameters.{Parameters, IsAccepted}
 

@@ -1,4 +1,4 @@
--- Reading TMCC words (ARIB STD-B31 3.15).
+-- Reading TMCC words (ARIB STD-B31 chapter 3).
 use Rattle.std.specs.Prelude.{ℕ, ◌+◌, Bool, true, false, not, ◌&&◌, if◌then◌else◌, ◌==◌, nat_le, Option, Some, None, Result, Ok, Err, List, slice_range, slice_index_or}
 use Rattle.isdbt_base.specs.declared.kinds.Modulation.{Modulation}
 use Rattle.isdbt_base.specs.declared.kinds.Modulation.TheVariants.{Qpsk, Qam16, Qam64}

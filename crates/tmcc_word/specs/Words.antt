@@ -1,4 +1,4 @@
--- TMCC words (ARIB STD-B31 3.15: 204 bits, B0 to B203, one for each symbol).
+-- TMCC words (ARIB STD-B31 chapter 3: 204 bits, B0 to B203, one for each symbol).
 use Rattle.std.specs.Prelude.{ℕ, Bool, true, false, Option, Some, None, List, ◌∷◌, ◌++◌, replicate}
 use Rattle.isdbt_base.specs.declared.kinds.Modulation.{Modulation}
 use Rattle.isdbt_base.specs.declared.kinds.Modulation.TheVariants.{Qpsk, Qam16, Qam64}

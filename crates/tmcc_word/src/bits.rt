@@ -4,17 +4,6 @@ ghost use Rattle.std.specs.Prelude.{◌≡◌, ◌+◌, ◌^◌, ◌<◌, ◌≤
 ghost use Rattle.isdbt_base.specs.Bits.{number_bits};
 ghost use Rattle.tmcc_word.specs.Reading.{field};
 
-/// Puts bits behind the first `at` bits, and says where they end.
-pub fn put(word: &mut [bool], at: usize, bits: &[bool]) -> usize
-    requires { at + length bits.now ≤ length word.old }
-    ensures end { result ≡ at + length bits.now }
-    ensures bits { take result word.new ≡ take at word.old ++ bits.now }
-{
-    let end = at + bits.len();
-    word[at..end].copy_from_slice(bits);
-    end
-}
-
 /// Puts the lowest `width` bits of a number behind the first `at` bits, the highest first, and says where they end.
 pub fn put_number(word: &mut [bool], at: usize, width: usize, number: u128) -> usize
     requires width { width ≤ 128 }
@@ -22,8 +11,8 @@ pub fn put_number(word: &mut [bool], at: usize, width: usize, number: u128) -> u
     ensures end { result ≡ at + width }
     ensures bits { take result word.new ≡ take at word.old ++ number_bits width number }
 {
-    for place in 0..width {
-        word[at + place] = number >> (width - 1 - place) & 1 == 1;
+    for bit in 0..width {
+        word[at + bit] = number >> (width - 1 - bit) & 1 == 1;
     }
     at + width
 }

@@ -1,4 +1,4 @@
-//! Codes of frames' parities, modulations, inner rates and time interleaving lengths (ARIB STD-B31 3.15).
+//! Codes of the sync word, modulations, inner rates and time interleaving lengths.
 
 ghost use Rattle.std.specs.Prelude.{◌≡◌};
 ghost use Rattle.tmcc_word.specs.Words.{sync_code, modulation_code, rate_code, depth_code};
@@ -12,6 +12,7 @@ const EVEN_SYNC: u32 = 0b0011_0101_1110_1110;
 /// Sync word of odd frames.
 const ODD_SYNC: u32 = 0b1100_1010_0001_0001;
 
+/// The sync word of even or odd frames, as a number.
 pub fn sync_code(odd: bool) -> u128
     ensures { result ≡ sync_code odd }
 {
@@ -22,6 +23,7 @@ pub fn sync_code(odd: bool) -> u128
     }
 }
 
+/// Whether a sync word is that of odd frames, or None where it is neither.
 pub fn odd_in(sync: u32) -> Option<bool>
     ensures { result ≡ odd_in sync }
 {
@@ -32,6 +34,7 @@ pub fn odd_in(sync: u32) -> Option<bool>
     }
 }
 
+/// The code of a modulation: 1, 2 or 3.
 pub fn modulation_code(modulation: Modulation) -> u128
     ensures { result ≡ modulation_code modulation }
 {
@@ -42,6 +45,7 @@ pub fn modulation_code(modulation: Modulation) -> u128
     }
 }
 
+/// The code of an inner rate: 0 to 4.
 pub fn rate_code(rate: Rate) -> u128
     ensures { result ≡ rate_code rate }
 {
@@ -54,6 +58,7 @@ pub fn rate_code(rate: Rate) -> u128
     }
 }
 
+/// The code of a time interleaving length: 0 to 3.
 pub fn depth_code(depth: DepthCode) -> u128
     ensures { result ≡ depth_code depth }
 {
@@ -65,6 +70,7 @@ pub fn depth_code(depth: DepthCode) -> u128
     }
 }
 
+/// The modulation of a code, or None where it has no meaning.
 pub fn modulation_in(code: u32) -> Option<Modulation>
     ensures { result ≡ modulation_in code }
 {
@@ -76,6 +82,7 @@ pub fn modulation_in(code: u32) -> Option<Modulation>
     }
 }
 
+/// The inner rate of a code, or None where it has no meaning.
 pub fn rate_in(code: u32) -> Option<Rate>
     ensures { result ≡ rate_in code }
 {
@@ -89,6 +96,7 @@ pub fn rate_in(code: u32) -> Option<Rate>
     }
 }
 
+/// The time interleaving length of a code, or None where it has no meaning.
 pub fn depth_in(code: u32) -> Option<DepthCode>
     ensures { result ≡ depth_in code }
 {

@@ -1,4 +1,4 @@
-//! The shortened (184,102) difference-set cyclic code (ARIB STD-B31 3.15.6).
+//! The shortened (184,102) difference-set cyclic code.
 //!
 //! A number is a polynomial over two elements, bit i the coefficient of x^i; in a list of bits the highest coefficient
 //! stands first.

@@ -3,12 +3,12 @@
 use isdbt_base::Setting;
 use std::marker::Model;
 
-/// What a TMCC word says of its frame (ARIB STD-B31 3.15). Its countdown is at most 15.
+/// What a TMCC word says of its frame. Its countdown is at most 15.
 #[derive(Clone, Copy, Debug, PartialEq, Eq)]
 pub struct TmccInfo {
     /// Emergency switch-on, 1 bit.
     pub start_up: bool,
-    /// Countdown to a switch of parameters, 4 bits (ARIB STD-B31 3.15.6.2).
+    /// Countdown to a switch of parameters, 4 bits.
     pub countdown: u8,
     /// The setting of the frame.
     pub now: Setting,

@@ -1,4 +1,4 @@
-//! TMCC words (ARIB STD-B31 3.15): the control word of a frame, 204 bits, one for each symbol.
+//! TMCC words (ARIB STD-B31 chapter 3): the control word of a frame, 204 bits, one for each symbol.
 //!
 //! | Bits | Contents | Written |
 //! |---|---|---|

@@ -2,6 +2,7 @@
 
 use crate::{TmccFault, TmccInfo, info_bits, parity, read_info, read_word, word_of};
 use isdbt_base::{DepthCode, Layer, LayerSetting, Modulation, Rate, Setting};
+use std::process::Abort;
 use std::test::Fail;
 
 /// Layer A of one segment with partial reception, and layer B.
@@ -120,11 +121,33 @@ struct RefusedBits<'a> {
     fault: TmccFault,
 }
 
+/// The word of the first frame, with a row's bits and the parity that fits them, is refused as the row says; and so is its
+/// information alone, where the bits are of it.
+fn expect_refused(rt: &impl Abort, rows: &[RefusedBits]) -> Result<(), Fail> {
+    let word = word_of(&first_info().ok_or("accepted")?, false);
+    for RefusedBits { at, text, fault } in rows {
+        let refused = fitting(&changed(&word, *at, text));
+        assert!(rt; read_word(&refused) == Err(*fault), "from B{at} on");
+        if *at >= 20 {
+            assert!(rt;
+                read_info(&information(&refused)) == Err(*fault),
+                "from B{at} on"
+            );
+        }
+    }
+    Ok(())
+}
+
 #[test]
-fn unlawful_tmcc_words(rt: HostRuntime) -> Result<(), Fail> {
+fn wrong_parity(rt: HostRuntime) -> Result<(), Fail> {
     let word = word_of(&first_info().ok_or("accepted")?, false);
     let wrong_parity = changed(&word, 203, b"0");
     assert!(rt; read_word(&wrong_parity) == Err(TmccFault::Parity));
+    Ok(())
+}
+
+#[test]
+fn unlawful_heads_and_layer_a(rt: HostRuntime) -> Result<(), Fail> {
     let ones = b"1111111111111";
     let rows = [
         RefusedBits {
@@ -167,6 +190,14 @@ fn unlawful_tmcc_words(rt: HostRuntime) -> Result<(), Fail> {
             text: b"0010",
             fault: TmccFault::LayerField(Layer::A),
         },
+    ];
+    expect_refused(&rt, &rows)
+}
+
+#[test]
+fn unlawful_layers_b_and_c(rt: HostRuntime) -> Result<(), Fail> {
+    let ones = b"1111111111111";
+    let rows = [
         RefusedBits {
             at: 41,
             text: b"11111111111110010010000001",
@@ -203,17 +234,7 @@ fn unlawful_tmcc_words(rt: HostRuntime) -> Result<(), Fail> {
             fault: TmccFault::Segments(1),
         },
     ];
-    for RefusedBits { at, text, fault } in rows {
-        let refused = fitting(&changed(&word, at, text));
-        assert!(rt; read_word(&refused) == Err(fault), "from B{at} on");
-        if at >= 20 {
-            assert!(rt;
-                read_info(&information(&refused)) == Err(fault),
-                "from B{at} on"
-            );
-        }
-    }
-    Ok(())
+    expect_refused(&rt, &rows)
 }
 
 /// Bits that a word has from bit `at` on, and that change nothing of what it says.

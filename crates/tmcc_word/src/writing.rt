@@ -5,11 +5,11 @@ ghost use Rattle.tmcc_word.specs.CyclicCode.{IsCodeword};
 ghost use Rattle.tmcc_word.specs.Words.{layer_field, setting_field, next_field, information_bits, word_of};
 ghost use Rattle.tmcc_word.specs.Reading.{read, info_at};
 
-use crate::bits::{put, put_number};
+use crate::bits::put_number;
 use crate::codes::{depth_code, modulation_code, rate_code, sync_code};
 use crate::cyclic_code::parity;
 use crate::info::TmccInfo;
-use isdbt_base::{Layer, LayerSetting, Setting};
+use isdbt_base::{Layer, LayerSetting, Setting, put};
 
 /// The word of a frame that says this. Its bits from B20 on are a codeword, and `read_word` undoes it.
 pub fn word_of(info: &TmccInfo, odd: bool) -> [bool; 204]

@@ -6,7 +6,7 @@
 
 mod packet;
 
-pub use packet::{NotSync, Packet};
+pub use packet::{NotSync, PACKET_BYTES, Packet, SYNC};
 
 #[cfg(test)]
 mod tests;

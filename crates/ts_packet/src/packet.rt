@@ -5,6 +5,12 @@ ghost use Rattle.std.specs.Prelude.{◌≡◌, ℕ, List, length, slice_index};
 use byteorder::{BigEndian, ByteOrder};
 use std::marker::Model;
 
+/// Bytes of a transport packet.
+pub const PACKET_BYTES: usize = 188;
+
+/// The sync byte: the first byte of each packet (ISO/IEC 13818-1 2.4.3.2).
+pub const SYNC: u8 = 0x47;
+
 /// The first byte is not the sync byte.
 #[derive(Clone, Copy, Debug, PartialEq, Eq)]
 pub struct NotSync;
@@ -12,7 +18,7 @@ pub struct NotSync;
 /// Transport packet: 188 bytes, the first of them the sync byte 47 (ISO/IEC 13818-1 2.4.3.2).
 #[derive(Clone, Copy, Debug, PartialEq, Eq)]
 pub struct Packet {
-    bytes: [u8; 188],
+    bytes: [u8; PACKET_BYTES],
 }
 
 impl Model for Packet {
@@ -37,10 +43,10 @@ impl Packet {
         requires { length bytes.now ≡ packet_bytes }
         ensures { MatchResult result (λ p. (p ≡ bytes.now) × IsPacket p) (λ _. slice_index bytes.now 0 ≢ sync_byte) }
     {
-        if bytes[0] != 0x47 {
+        if bytes[0] != SYNC {
             return Err(NotSync);
         }
-        let mut copy = [0u8; 188];
+        let mut copy = [0u8; PACKET_BYTES];
         copy.copy_from_slice(bytes);
         Ok(Packet { bytes: copy })
     }
@@ -51,8 +57,8 @@ impl Packet {
         ensures value { result ≡ null_packet }
         ensures packet { IsPacket result }
     {
-        let mut bytes = [0xFFu8; 188];
-        bytes[0] = 0x47;
+        let mut bytes = [0xFFu8; PACKET_BYTES];
+        bytes[0] = SYNC;
         bytes[1] = 0x1F;
         bytes[3] = 0x10;
         Packet { bytes }

@@ -29,16 +29,44 @@ fn null_packet(rt: HostRuntime) -> Result<(), Fail> {
     Ok(())
 }
 
+/// The first bytes of a packet, its identifier, and whether its transport error indicator is set.
+#[derive(Clone, Copy)]
+struct PacketRow {
+    head: [u8; 3],
+    pid: u16,
+    mark: bool,
+}
+
 #[test]
 fn fields(rt: HostRuntime) -> Result<(), Fail> {
     let table = [
-        ([0x47, 0x41, 0x23], 0x0123, false),
-        ([0x47, 0xC1, 0x23], 0x0123, true),
-        ([0x47, 0x00, 0x00], 0x0000, false),
-        ([0x47, 0x1F, 0xFE], 0x1FFE, false),
-        ([0x47, 0x80, 0xFF], 0x00FF, true),
+        PacketRow {
+            head: [0x47, 0x41, 0x23],
+            pid: 0x0123,
+            mark: false,
+        },
+        PacketRow {
+            head: [0x47, 0xC1, 0x23],
+            pid: 0x0123,
+            mark: true,
+        },
+        PacketRow {
+            head: [0x47, 0x00, 0x00],
+            pid: 0x0000,
+            mark: false,
+        },
+        PacketRow {
+            head: [0x47, 0x1F, 0xFE],
+            pid: 0x1FFE,
+            mark: false,
+        },
+        PacketRow {
+            head: [0x47, 0x80, 0xFF],
+            pid: 0x00FF,
+            mark: true,
+        },
     ];
-    for (head, pid, mark) in table {
+    for PacketRow { head, pid, mark } in table {
         let packet = Packet::read(&beginning(head))?;
         assert_eq!(rt; packet.pid(), pid);
         assert_eq!(rt; packet.error_mark(), mark);

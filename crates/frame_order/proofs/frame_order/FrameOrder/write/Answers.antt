@@ -18,7 +18,7 @@ loop-slot-preserved c = record {
   room = omega arith;
   null = c.null-null.ensures.value;
   at = omega arith;
-  bytes = rw (c.put-at-in-loop-slot.ensures.bytes, c.put-at.ensures.bytes, c.put_packet-at.ensures.bytes, c.loop-slot.invariant.bytes, c.to_bytes-info.ensures.value, c.info_of.ensures, c.layer_of.ensures, c.mark-mark.ensures.value)
+  bytes = rw (c.put-at-in-loop-slot.ensures.items, c.put-at.ensures.items, c.put_packet-at.ensures.bytes, c.loop-slot.invariant.bytes, c.to_bytes-info.ensures.value, c.info_of.ensures, c.layer_of.ensures, c.mark-mark.ensures.value)
       (first_slots-more c.args.self.now.mode c.args.self.now.guard c.args.self.now.setting c.args.tag.now (layer_packet c.args.packets.now) c.loop-slot.slot);
 }
 
