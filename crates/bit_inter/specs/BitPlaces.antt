@@ -1,4 +1,4 @@
--- Bit interleaving (ARIB STD-B31 3.9.3: delays of up to 120 cells before the mapping).
+-- Bit interleaving (ARIB STD-B31 chapter 3: delays of up to 120 cells before the mapping).
 use Rattle.std.specs.Prelude.{ℕ, ◌+◌, ◌-◌, ◌*◌, ◌/◌, ◌%◌, Bool, false, if◌then◌else◌, nat_le}
 
 -- by how many cells bit r of a cell of v bits is delayed

@@ -1,4 +1,4 @@
--- The stages of bit interleaving: one path for each bit of a cell (ARIB STD-B31 3.9.3).
+-- The stages of bit interleaving: one path for each bit of a cell.
 use Rattle.std.specs.Prelude.{◌≡◌, ℕ, ◌-◌, ◌%◌, ◌≤◌, Bool, false}
 use Rattle.delay_line.specs.Stages.{Layout}
 use Rattle.bit_inter.specs.BitPlaces.{bit_delay}

@@ -31,7 +31,7 @@ impl<const V: usize> BitInter<V> {
     ghost use Rattle.delay_line.specs.Stages.{StandsFor, new_bank};
     ghost use Rattle.bit_inter.specs.Layouts.{inter_layout, IsCellWidth};
 
-    /// An interleaver whose paths hold zeros. Only memory can be wanting.
+    /// An interleaver whose paths hold zeros. Fails only if memory runs out.
     pub fn open(alloc: Global) -> Result<Self, NoMemory>
         requires { IsCellWidth V }
         ensures zeros { IfOk result (λ stage. stage ≡ new_bank (inter_layout V)) }

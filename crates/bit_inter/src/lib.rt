@@ -1,4 +1,4 @@
-//! Bit interleaving (ARIB STD-B31 3.9.3): one path for each bit of a cell, late by up to 120 cells,
+//! Bit interleaving (ARIB STD-B31 chapter 3): one path for each bit of a cell, late by up to 120 cells,
 //! the stage that undoes it, and the places of a layer's coded bits.
 //!
 //! Memory is taken by `open` alone.

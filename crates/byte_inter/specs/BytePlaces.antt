@@ -1,4 +1,4 @@
--- Delay adjustment and byte interleaving (ARIB STD-B31 3.6, 3.7: twelve paths of 17 bytes).
+-- Delay adjustment and byte interleaving (ARIB STD-B31 chapter 3: twelve paths of 17 bytes).
 use Rattle.std.specs.Prelude.{ℕ, ◌+◌, ◌*◌, ◌-◌, ◌%◌, if◌then◌else◌, nat_le}
 
 -- the delay adjustment of a layer of t packets a frame, in bytes

@@ -1,4 +1,4 @@
--- The stages of byte interleaving: the delays of the paths (ARIB STD-B31 3.7).
+-- The stages of byte interleaving: the delays of the paths.
 use Rattle.std.specs.Prelude.{ℕ, ◌-◌, ◌*◌, ◌≤◌}
 use Rattle.delay_line.specs.Stages.{Layout}
 

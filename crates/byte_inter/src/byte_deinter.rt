@@ -31,7 +31,7 @@ impl<const PATHS: usize, const UNIT: usize> ByteDeinter<PATHS, UNIT> {
     ghost use Rattle.delay_line.specs.Stages.{StandsFor, new_bank};
     ghost use Rattle.byte_inter.specs.Layouts.{deinter_layout, AreSizes};
 
-    /// A deinterleaver whose paths hold zeros. Only memory can be wanting.
+    /// A deinterleaver whose paths hold zeros. Fails only if memory runs out.
     pub fn open(alloc: Global) -> Result<Self, NoMemory>
         requires { AreSizes PATHS UNIT }
         ensures zeros { IfOk result (λ stage. stage ≡ new_bank (deinter_layout PATHS UNIT)) }

@@ -1,4 +1,4 @@
-//! Byte interleaving (ARIB STD-B31 3.7): twelve paths, of which path p is late by 17 * p turns, the
+//! Byte interleaving (ARIB STD-B31 chapter 3): twelve paths, of which path p is late by 17 * p turns, the
 //! stage that undoes it, and the places of a layer's bytes.
 //!
 //! Memory is taken by `open` alone.

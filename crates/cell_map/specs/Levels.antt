@@ -1,4 +1,4 @@
--- Carrier modulation (ARIB STD-B31 3.9: mapping of QPSK, 16QAM and 64QAM), without the normalising factor.
+-- Carrier modulation (ARIB STD-B31 chapter 3: mapping of QPSK, 16QAM and 64QAM), without the normalising factor.
 use Rattle.std.specs.Prelude.{ℕ, ◌+◌, ◌*◌, ◌==◌, ℤ, pos, negsuc, ◌-ℤ◌, nat_abs, ◌≤ℤ◌, ◌≡◌, ◌<◌, ◌⊎◌, nat_lt, List, [], ◌∷◌, if◌then◌else◌}
 use Rattle.std.specs.Int.{bit_at}
 use Rattle.isdbt_base.specs.declared.kinds.Modulation.{Modulation}

@@ -1,4 +1,4 @@
-//! Carrier modulation: the cells of QPSK, 16QAM and 64QAM (ARIB STD-B31 3.9), without the normalising factor.
+//! Carrier modulation: the cells of QPSK, 16QAM and 64QAM (ARIB STD-B31 chapter 3), without the normalising factor.
 //!
 //! The bits b0, b1, .. of a cell are the lowest two, four or six bits of a byte, b0 the highest of them. Those with even
 //! numbers are of the axis I, those with odd numbers of the axis Q. Axis bits stand for these levels:

@@ -4,13 +4,13 @@ ghost use Rattle.std.specs.Prelude.{◌≡◌, ◌<◌, ◌≤◌, pos, get_or, 
 
 use crate::cell::Cell;
 
-// The cells of the bits 00 to 11, as (I, Q).
+/// The cells of the bits 00 to 11, as (I, Q).
 #[rattlefmt::skip]
 pub static QPSK_CELLS: [(i8, i8); 4] = [
     (1, 1), (1, -1), (-1, 1), (-1, -1),
 ];
 
-// In 4 rows of 4, the cells of the bits 0000 to 1111: entry j of row i has the bits 4 i + j.
+/// In 4 rows of 4, the cells of the bits 0000 to 1111: entry j of row i has the bits 4 i + j.
 #[rattlefmt::skip]
 pub static QAM16_CELLS: [(i8, i8); 16] = [
     (3, 3), (3, 1), (1, 3), (1, 1),
@@ -19,7 +19,7 @@ pub static QAM16_CELLS: [(i8, i8); 16] = [
     (-3, -3), (-3, -1), (-1, -3), (-1, -1),
 ];
 
-// In 8 rows of 8, the cells of the bits 000000 to 111111: entry j of row i has the bits 8 i + j.
+/// In 8 rows of 8, the cells of the bits 000000 to 111111: entry j of row i has the bits 8 i + j.
 #[rattlefmt::skip]
 pub static QAM64_CELLS: [(i8, i8); 64] = [
     (7, 7), (7, 5), (5, 7), (5, 5), (7, 1), (7, 3), (5, 1), (5, 3),
@@ -32,8 +32,8 @@ pub static QAM64_CELLS: [(i8, i8); 64] = [
     (-1, -7), (-1, -5), (-3, -7), (-3, -5), (-1, -1), (-1, -3), (-3, -1), (-3, -3),
 ];
 
-// The axis bits of the levels from the highest down, each bit with a free place above it. All modulations begin alike:
-// QPSK has the first two, 16QAM the first four.
+/// The axis bits of the levels from the highest down, each bit with a free place above it. All modulations begin alike:
+/// QPSK has the first two, 16QAM the first four.
 pub static AXIS_BITS: [u8; 8] = [
     0b00000, 0b00001, 0b00101, 0b00100, 0b10100, 0b10101, 0b10001, 0b10000,
 ];

@@ -9,7 +9,7 @@ use Rattle.isdbt_base.specs.declared.kinds.Rate.{Rate}
 use Rattle.isdbt_base.specs.declared.kinds.Rate.TheVariants.{R12, R23, R34, R56, R78}
 use Rattle.isdbt_base.specs.Numbers.{rate_steps}
 use Rattle.conv_punct.specs.CodedBits.{bit_of}
-use Rattle.conv_punct.specs.Outputs.{word_bit, AreNewest}
+use Rattle.conv_punct.specs.MotherCode.{word_bit, AreNewest}
 use Rattle.conv_punct.specs.StandsFor.{bits_of, BeginsWith}
 use Rattle.conv_punct.proofs.WordLaws.{earlier_bit-here, earlier_bit-none, word_bit-mod}
 

@@ -3,7 +3,7 @@ use Rattle.std.proofs.Common.{◌≡◌, ℕ, ◌+◌, ◌-◌, Bool, false, ref
 use Rattle.std.proofs.lemmas.Bool.{cases_lt}
 use Rattle.isdbt_base.specs.declared.kinds.Rate.{Rate}
 use Rattle.conv_punct.specs.CodedBits.{coded_bit}
-use Rattle.conv_punct.specs.Outputs.{AreCoded, ChangesOnly}
+use Rattle.conv_punct.specs.MotherCode.{AreCoded, ChangesOnly}
 
 pub ChangesOnly-none : (bits : List Bool) (at : ℕ) → ChangesOnly bits bits at 0
 ChangesOnly-none bits at = record { before = λ j h. refl; behind = λ j h. refl }

@@ -5,11 +5,11 @@ use Rattle.std.proofs.Math.ListN.{get_or-map}
 use Rattle.isdbt_base.specs.declared.kinds.Rate.{Rate}
 use Rattle.isdbt_base.specs.declared.kinds.Rate.TheVariants.{R12, R23, R34, R56, R78}
 use Rattle.isdbt_base.specs.Numbers.{rate_steps, rate_bits}
-use Rattle.conv_punct.specs.declared.outputs.Outputs.{Outputs}
+use Rattle.conv_punct.specs.declared.mother_code.MotherBits.{MotherBits}
 use Rattle.conv_punct.specs.declared.pattern.Sent.{Sent}
 use Rattle.conv_punct.specs.declared.pattern.Sent.TheVariants.{X, Y}
 use Rattle.conv_punct.specs.CodedBits.{pattern, output_at, output_bit, step_of, coded_bit, x_bit, y_bit, x_of}
-use Rattle.conv_punct.specs.Outputs.{AreOutputs}
+use Rattle.conv_punct.specs.MotherCode.{AreMotherBits}
 use Rattle.conv_punct.specs.Sending.{output_of, sent_bit}
 use Rattle.conv_punct.proofs.PatternLaws.{div-part, mod-part, output_step-lt}
 
@@ -38,7 +38,7 @@ unfolding coded_bit
 coded_bit-pattern rate u before r h = rw (div-part rate before r h, mod-part rate before r h) refl
 
 -- the bit of an output of the pattern whose last step has bit `last`
-pub sent_bit-output : (o : Outputs) (u : ℕ → Bool) (i start steps last : ℕ) (sent : Sent) → AreOutputs o (last + steps) u i → i ≡ start + steps + last → step_of (output_of sent) < steps → sent_bit o (last + steps - 1) sent ≡ output_bit u start (output_of sent)
+pub sent_bit-output : (o : MotherBits) (u : ℕ → Bool) (i start steps last : ℕ) (sent : Sent) → AreMotherBits o (last + steps) u i → i ≡ start + steps + last → step_of (output_of sent) < steps → sent_bit o (last + steps - 1) sent ≡ output_bit u start (output_of sent)
 sent_bit-output o u i start steps last (X a) outputs e h =
     let place : i - 1 - (last + steps - 1 - a) ≡ start + a = omega arith in
     outputs.x (last + steps - 1 - a) (omega arith) ∙ ap (x_bit u) place
@@ -46,7 +46,7 @@ sent_bit-output o u i start steps last (Y a) outputs e h =
     let place : i - 1 - (last + steps - 1 - a) ≡ start + a = omega arith in
     outputs.y (last + steps - 1 - a) (omega arith) ∙ ap (y_bit u) place
 
-pub sent-coded : (rate : Rate) (sent : List Sent) (o : Outputs) (u : ℕ → Bool) (i before last r : ℕ) → map output_of sent ≡ pattern rate → r < rate_bits rate → AreOutputs o (last + rate_steps rate) u i → i ≡ rate_steps rate * (before + 1) + last → sent_bit o (last + rate_steps rate - 1) (get_or sent r (X 0)) ≡ coded_bit rate u (rate_bits rate * before + r)
+pub sent-coded : (rate : Rate) (sent : List Sent) (o : MotherBits) (u : ℕ → Bool) (i before last r : ℕ) → map output_of sent ≡ pattern rate → r < rate_bits rate → AreMotherBits o (last + rate_steps rate) u i → i ≡ rate_steps rate * (before + 1) + last → sent_bit o (last + rate_steps rate - 1) (get_or sent r (X 0)) ≡ coded_bit rate u (rate_bits rate * before + r)
 sent-coded rate sent o u i before last r e h outputs place =
     let size = length-sent rate sent e in
     let at : i ≡ rate_steps rate * before + rate_steps rate + last = omega arith in

@@ -8,7 +8,7 @@ use Rattle.std.proofs.lemmas.Nat.{shr-shr, and_mask, or_shifted}
 use Rattle.std.proofs.lemmas.Nat.Bits.{bit_at_and, bit_at_xor, bit_at_ones, bit_at-lt, bit_at_cat_low, bit_at_cat_high}
 use Rattle.isdbt_base.specs.Bits.{◌⊕◌}
 use Rattle.conv_punct.specs.CodedBits.{earlier_bit, x_bit, y_bit}
-use Rattle.conv_punct.specs.Outputs.{word_bit, AreNewest}
+use Rattle.conv_punct.specs.MotherCode.{word_bit, AreNewest}
 use Rattle.conv_punct.specs.StandsFor.{bits_of}
 
 -- ---- earlier inputs

@@ -1,4 +1,4 @@
--- The inner code: a punctured convolutional code of mother rate 1/2 (ARIB STD-B31 3.8; generators 171 and 133 octal).
+-- The inner code: a punctured convolutional code of mother rate 1/2 (ARIB STD-B31 chapter 3; generators 171 and 133 octal).
 use Rattle.std.specs.Prelude.{ℕ, ◌+◌, ◌-◌, ◌*◌, ◌/◌, ◌%◌, Bool, false, if◌then◌else◌, nat_le, nat_lt, ◌==◌, List, [], ◌∷◌, slice_index_or, count_by}
 use Rattle.std.specs.Int.{bit_at}
 use Rattle.isdbt_base.specs.declared.kinds.Rate.{Rate}

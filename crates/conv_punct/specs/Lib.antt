@@ -1,5 +1,5 @@
 pub mod CodedBits
 pub mod CodedCost
-pub mod Outputs
+pub mod MotherCode
 pub mod StandsFor
 pub mod Sending

@@ -1,10 +1,10 @@
--- What an encoder keeps of the bytes that it was fed (ARIB STD-B31 3.8).
+-- What an encoder keeps of the bytes that it was fed.
 use Rattle.std.specs.Prelude.{◌≡◌, ℕ, ◌*◌, ◌/◌, ◌%◌, ◌^◌, ◌<◌, Bool, List, length, slice_index}
 use Rattle.isdbt_base.specs.declared.kinds.Rate.{Rate}
 use Rattle.isdbt_base.specs.Numbers.{rate_steps, rate_bits}
 use Rattle.conv_punct.specs.declared.encoder.Encoder.{Encoder}
 use Rattle.conv_punct.specs.CodedBits.{bit_of}
-use Rattle.conv_punct.specs.Outputs.{AreNewest}
+use Rattle.conv_punct.specs.MotherCode.{AreNewest}
 
 -- the rate that an encoder is for
 abbrev pub rate_of : Encoder → Rate

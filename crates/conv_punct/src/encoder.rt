@@ -5,7 +5,7 @@ ghost use Rattle.isdbt_base.specs.Numbers.{rate_steps};
 ghost use Rattle.conv_punct.specs.CodedBits.{bit_of, coded_bit};
 ghost use Rattle.conv_punct.specs.StandsFor.{StandsFor, BeginsWith, coded_size, rate_of};
 
-use crate::outputs::{joined, outputs_of};
+use crate::mother_code::{joined, mother_code_of};
 use crate::puncture::put_coded;
 use isdbt_base::Rate;
 
@@ -59,7 +59,7 @@ impl Encoder {
         for index in 0..bytes.len() / unit {
             let start = index * unit;
             inputs = joined(inputs, &bytes[start..start + unit]);
-            at = put_coded(out, at, self.rate, &outputs_of(inputs), patterns);
+            at = put_coded(out, at, self.rate, &mother_code_of(inputs), patterns);
         }
         self.newest = (inputs & 0x3F) as u8;
         at

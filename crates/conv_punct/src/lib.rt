@@ -1,4 +1,4 @@
-//! The inner code: a convolutional code of mother rate 1/2, punctured to the rate of a layer (ARIB STD-B31 3.8).
+//! The inner code: a convolutional code of mother rate 1/2, punctured to the rate of a layer (ARIB STD-B31 chapter 3).
 //!
 //! Each input bit is a step of the mother code. It has two outputs: X, the sum modulo 2 of the step's bit and of the bits
 //! 1, 2, 3 and 6 steps before (171 octal), and Y, of the step's bit and of the bits 2, 3, 5 and 6 steps before (133
@@ -17,7 +17,7 @@
 
 mod encoder;
 mod laws;
-mod outputs;
+mod mother_code;
 mod pattern;
 mod puncture;
 

@@ -16,7 +16,7 @@ pub enum Sent {
     Y(u32),
 }
 
-/// The outputs that are sent of each so many steps, in their order (ARIB STD-B31 3.8).
+/// The outputs that are sent of each so many steps, in their order.
 pub fn pattern_of(rate: Rate) -> &'static [Sent]
     ensures { map output_of result.now ≡ pattern rate }
 {

@@ -4,15 +4,15 @@ ghost use Rattle.std.specs.Prelude.{◌≡◌, ℕ, ◌+◌, ◌*◌, ◌<◌, �
 ghost use Rattle.isdbt_base.specs.Numbers.{rate_steps, rate_bits};
 ghost use Rattle.conv_punct.specs.CodedBits.{step_of};
 ghost use Rattle.conv_punct.specs.Sending.{output_of, sent_bit};
-ghost use Rattle.conv_punct.specs.Outputs.{AreOutputs, AreCoded, ChangesOnly};
+ghost use Rattle.conv_punct.specs.MotherCode.{AreMotherBits, AreCoded, ChangesOnly};
 
-use crate::outputs::Outputs;
+use crate::mother_code::MotherBits;
 use crate::pattern::{Sent, pattern_of};
 use isdbt_base::{Rate, rate_pair};
 
 /// The output of a pattern whose first step has bit `first`.
 #[inline(always)]
-fn sent_bit(sent: Sent, outputs: &Outputs, first: u32) -> bool
+fn sent_bit(sent: Sent, outputs: &MotherBits, first: u32) -> bool
     requires within { step_of (output_of sent) ≤ first }
     requires place { first < 64 }
     ensures { result ≡ sent_bit outputs.now first sent }
@@ -25,11 +25,11 @@ fn sent_bit(sent: Sent, outputs: &Outputs, first: u32) -> bool
 
 /// Puts the coded bits of one pattern, whose last step has bit `last`, at a place of `out`, and says where they end.
 #[inline(always)]
-fn put_pattern(out: &mut [bool], at: usize, rate: Rate, outputs: &Outputs, last: u32) -> usize
+fn put_pattern(out: &mut [bool], at: usize, rate: Rate, outputs: &MotherBits, last: u32) -> usize
     requires room { at + rate_bits rate ≤ length out.old }
     requires place { last + rate_steps rate ≤ 64 }
     ensures end { result ≡ at + rate_bits rate }
-    ensures coded { (u : ℕ → Bool) (i before : ℕ) → AreOutputs outputs.now (last + rate_steps rate) u i → i ≡ rate_steps rate * (before + 1) + last → AreCoded rate u (rate_bits rate * before) out.new at (rate_bits rate) }
+    ensures coded { (u : ℕ → Bool) (i before : ℕ) → AreMotherBits outputs.now (last + rate_steps rate) u i → i ≡ rate_steps rate * (before + 1) + last → AreCoded rate u (rate_bits rate * before) out.new at (rate_bits rate) }
     ensures others { ChangesOnly out.old out.new at (rate_bits rate) }
 {
     let (steps, _) = rate_pair(rate);
@@ -43,11 +43,17 @@ fn put_pattern(out: &mut [bool], at: usize, rate: Rate, outputs: &Outputs, last:
 
 /// Puts the coded bits of so many patterns, the last steps of `outputs`, at a place of `out`, and says where they end.
 #[inline(always)]
-fn put_patterns(out: &mut [bool], at: usize, rate: Rate, outputs: &Outputs, patterns: u32) -> usize
+fn put_patterns(
+    out: &mut [bool],
+    at: usize,
+    rate: Rate,
+    outputs: &MotherBits,
+    patterns: u32,
+) -> usize
     requires room { at + rate_bits rate * patterns ≤ length out.old }
     requires few { rate_steps rate * patterns ≤ 56 }
     ensures end { result ≡ at + rate_bits rate * patterns }
-    ensures coded { (u : ℕ → Bool) (i before : ℕ) → AreOutputs outputs.now (rate_steps rate * patterns) u i → i ≡ rate_steps rate * (before + patterns) → AreCoded rate u (rate_bits rate * before) out.new at (rate_bits rate * patterns) }
+    ensures coded { (u : ℕ → Bool) (i before : ℕ) → AreMotherBits outputs.now (rate_steps rate * patterns) u i → i ≡ rate_steps rate * (before + patterns) → AreCoded rate u (rate_bits rate * before) out.new at (rate_bits rate * patterns) }
     ensures others { ChangesOnly out.old out.new at (rate_bits rate * patterns) }
 {
     let (steps, _) = rate_pair(rate);
@@ -60,11 +66,17 @@ fn put_patterns(out: &mut [bool], at: usize, rate: Rate, outputs: &Outputs, patt
 }
 
 /// The same, with code of its own for each rate.
-pub fn put_coded(out: &mut [bool], at: usize, rate: Rate, outputs: &Outputs, patterns: u32) -> usize
+pub fn put_coded(
+    out: &mut [bool],
+    at: usize,
+    rate: Rate,
+    outputs: &MotherBits,
+    patterns: u32,
+) -> usize
     requires room { at + rate_bits rate * patterns ≤ length out.old }
     requires few { rate_steps rate * patterns ≤ 56 }
     ensures end { result ≡ at + rate_bits rate * patterns }
-    ensures coded { (u : ℕ → Bool) (i before : ℕ) → AreOutputs outputs.now (rate_steps rate * patterns) u i → i ≡ rate_steps rate * (before + patterns) → AreCoded rate u (rate_bits rate * before) out.new at (rate_bits rate * patterns) }
+    ensures coded { (u : ℕ → Bool) (i before : ℕ) → AreMotherBits outputs.now (rate_steps rate * patterns) u i → i ≡ rate_steps rate * (before + patterns) → AreCoded rate u (rate_bits rate * before) out.new at (rate_bits rate * patterns) }
     ensures others { ChangesOnly out.old out.new at (rate_bits rate * patterns) }
 {
     match rate {

@@ -26,7 +26,7 @@ impl<T> Model for Line<T> {
 }
 
 impl<T: Copy> Line<T> {
-    /// A line of so many items' delay, which holds as many fills. Only memory can be wanting.
+    /// A line of so many items' delay, which holds as many fills. Fails only if memory runs out.
     pub fn open(alloc: Global, delay: u32, fill: T) -> Result<Line<T>, NoMemory>
         ensures { IfOk result (λ line. line ≡ replicate delay fill) }
     {

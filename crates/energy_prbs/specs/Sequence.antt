@@ -1,4 +1,4 @@
--- The pseudo-random sequence of energy dispersal (ARIB STD-B31 3.5: x^15 + x^14 + 1, initial value 100101010000000).
+-- The pseudo-random sequence of energy dispersal (ARIB STD-B31 chapter 3: x^15 + x^14 + 1, initial value 100101010000000).
 use Rattle.std.specs.Prelude.{ℕ, zero, suc, ◌+◌, ◌-◌, ◌*◌, Bool, true, false, not, cond, List, [], ◌∷◌, take, slice_index_or, nat_le, if◌then◌else◌}
 use Rattle.std.specs.Int.{from_bool}
 

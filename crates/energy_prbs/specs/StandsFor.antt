@@ -1,4 +1,4 @@
--- What a generator keeps of the sequence (ARIB STD-B31 3.5).
+-- What a generator keeps of the sequence.
 use Rattle.std.specs.Prelude.{◌≡◌, ℕ, ◌+◌, ◌*◌, ◌^◌, ◌<◌, ◌==◌}
 use Rattle.std.specs.Int.{bit_at}
 use Rattle.energy_prbs.specs.declared.prbs.Prbs.{Prbs}

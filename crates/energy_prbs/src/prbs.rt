@@ -4,7 +4,7 @@ ghost use Rattle.std.specs.Prelude.{◌≡◌, ℕ, ◌+◌, ◌<◌, length, sl
 ghost use Rattle.energy_prbs.specs.Sequence.{sequence_byte};
 ghost use Rattle.energy_prbs.specs.StandsFor.{StandsFor};
 
-/// The initial value 100101010000000, its first bit lowest (ARIB STD-B31 3.5).
+/// The initial value 100101010000000, its first bit lowest.
 const INITIAL_VALUE: u16 = 0b000_0000_1010_1001;
 
 /// Bytes of a unit that are dispersed: all but the last.

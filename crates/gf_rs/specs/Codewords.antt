@@ -1,4 +1,4 @@
--- The outer code: shortened Reed-Solomon codes (ARIB STD-B31 3.4: RS(204,188), whose generator has the roots λ^0 to λ^15, λ being 02 hex).
+-- The outer code: shortened Reed-Solomon codes (ARIB STD-B31 chapter 3: RS(204,188), whose generator has the roots λ^0 to λ^15, λ being 02 hex).
 use Rattle.std.specs.Prelude.{◌≡◌, ℕ, zero, suc, ◌+◌, ◌<◌, ◌≤◌, bit_xor, List, [], ◌∷◌, ◌++◌, length, All, replicate, drop, slice_index, map, if◌then◌else◌, ◌==◌}
 use Rattle.gf_rs.specs.Field.{gf_mul, gf_pow}
 

@@ -4,8 +4,8 @@ ghost use Rattle.std.specs.Prelude.{◌≡◌, ℕ, ◌-◌, ◌<◌, ◌%◌, �
 ghost use Rattle.gf_rs.specs.Field.{gf_pow};
 ghost use Rattle.gf_rs.specs.Polynomials.{value_to};
 
-// For each even count of roots, the product of x - λ^i for i below it: the exponents of λ of its coefficients, from the
-// highest power down, without the leading 1. Zeros fill the row.
+/// For each even count of roots, the product of x - λ^i for i below it: the exponents of λ of its coefficients, from the
+/// highest power down, without the leading 1. Zeros fill the row.
 #[rattlefmt::skip]
 pub static GENERATORS: [[u8; 32]; 16] = [
     // 2 roots

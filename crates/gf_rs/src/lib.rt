@@ -1,5 +1,5 @@
 //! The outer code: bytes as the field of 256 elements, and shortened Reed-Solomon codes over it, both ways
-//! (ARIB STD-B31 3.4: 188 bytes of data and 16 of parity).
+//! (ARIB STD-B31 chapter 3: 188 bytes of data and 16 of parity).
 //!
 //! A byte is a polynomial over two elements, its top bit at x^7, taken modulo x^8 + x^4 + x^3 + x^2 + 1; λ is the byte
 //! 02 hex. A word is a polynomial over this field, its first byte at the highest power. It is a codeword for so many roots

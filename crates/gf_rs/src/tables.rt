@@ -2,8 +2,8 @@
 
 ghost use Rattle.std.specs.Prelude.{◌≡◌, ◌<◌, ◌≤◌, slice_index};
 
-// In 32 rows of 16, λ^0 to λ^511: entry j of row i is λ^(16 i + j). Behind them stand zeros, for sums with the logarithm
-// of 0.
+/// In 32 rows of 16, λ^0 to λ^511: entry j of row i is λ^(16 i + j). Behind them stand zeros, for sums with the logarithm
+/// of 0.
 #[rattlefmt::skip]
 pub static POWERS: [u8; 1025] = [
     0x01, 0x02, 0x04, 0x08, 0x10, 0x20, 0x40, 0x80, 0x1D, 0x3A, 0x74, 0xE8, 0xCD, 0x87, 0x13, 0x26,
@@ -57,8 +57,8 @@ pub static POWERS: [u8; 1025] = [
     0,
 ];
 
-// In 16 rows of 16, the exponent of λ for each byte: entry j of row i belongs to the byte 16 i + j. That of 0, which is no
-// power, is 512, so that its sums lie among the zeros behind the powers.
+/// In 16 rows of 16, the exponent of λ for each byte: entry j of row i belongs to the byte 16 i + j. That of 0, which is no
+/// power, is 512, so that its sums lie among the zeros behind the powers.
 #[rattlefmt::skip]
 pub static LOGARITHMS: [u16; 256] = [
     0x200, 0x00, 0x01, 0x19, 0x02, 0x32, 0x1A, 0xC6, 0x03, 0xDF, 0x33, 0xEE, 0x1B, 0x68, 0xC7, 0x4B,

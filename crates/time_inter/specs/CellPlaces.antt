@@ -1,4 +1,4 @@
--- Segments and time interleaving (ARIB STD-B31 3.11.1).
+-- Segments and time interleaving (ARIB STD-B31 chapter 3).
 use Rattle.std.specs.Prelude.{ℕ, ◌+◌, ◌*◌, ◌/◌, ◌%◌}
 use Rattle.isdbt_base.specs.declared.kinds.Mode.{Mode}
 use Rattle.isdbt_base.specs.declared.kinds.Layer.{Layer}

@@ -1,4 +1,4 @@
--- The stages of time interleaving: one path for each carrier of a segment (ARIB STD-B31 3.11.1).
+-- The stages of time interleaving: one path for each carrier of a segment.
 use Rattle.std.specs.Prelude.{ℕ, ◌-◌, ◌*◌, ◌%◌, ◌≤◌}
 use Rattle.delay_line.specs.Stages.{Layout}
 use Rattle.time_inter.specs.CellPlaces.{carrier_delay}

@@ -8,10 +8,12 @@ ghost use Rattle.time_inter.specs.CellPlaces.{place_of};
 
 use isdbt_base::{Layer, Mode, Setting, carriers};
 
-/// Where a cell stands in a symbol: segment 0 to 12, and data carrier of the segment.
+/// Where a cell stands in a symbol.
 #[derive(Clone, Copy, Debug, PartialEq, Eq)]
 pub struct CellPlace {
+    /// Segment, 0 to 12.
     pub segment: u32,
+    /// Data carrier of the segment, from 0.
     pub carrier: u32,
 }
 

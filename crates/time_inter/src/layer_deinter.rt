@@ -29,7 +29,7 @@ impl LayerDeinter {
     ghost use Rattle.delay_line.specs.Stages.{StandsFor};
     ghost use Rattle.time_inter.specs.LayerPartner.{layout_of, held_of};
 
-    /// A deinterleaver for a layer, whose paths hold zeros. Only memory can be wanting.
+    /// A deinterleaver for a layer, whose paths hold zeros. Fails only if memory runs out.
     pub fn open(alloc: Global, setting: &LayerSetting, mode: Mode) -> Result<LayerDeinter, NoMemory>
         ensures layout { IfOk result (λ stage. layout_of stage ≡ layer_deinter_layout (time_depth mode setting.now.depth) (carriers mode) setting.now.segments) }
         ensures stands { IfOk result (λ stage. StandsFor (layout_of stage) (held_of stage) []) }

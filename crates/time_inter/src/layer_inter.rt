@@ -29,7 +29,7 @@ impl LayerInter {
     ghost use Rattle.delay_line.specs.Stages.{StandsFor};
     ghost use Rattle.time_inter.specs.LayerStage.{layout_of, held_of};
 
-    /// An interleaver for a layer, whose paths hold zeros. Only memory can be wanting.
+    /// An interleaver for a layer, whose paths hold zeros. Fails only if memory runs out.
     pub fn open(alloc: Global, setting: &LayerSetting, mode: Mode) -> Result<LayerInter, NoMemory>
         ensures layout { IfOk result (λ stage. layout_of stage ≡ layer_layout (time_depth mode setting.now.depth) (carriers mode) setting.now.segments) }
         ensures stands { IfOk result (λ stage. StandsFor (layout_of stage) (held_of stage) []) }

@@ -1,4 +1,4 @@
-//! Segments and time interleaving (ARIB STD-B31 3.11.1): one path for each carrier of a segment, late by up to 95 times
+//! Segments and time interleaving (ARIB STD-B31 chapter 3): one path for each carrier of a segment, late by up to 95 times
 //! the interleaving length in symbols, the stage that undoes it, and the places of a layer's cells.
 //!
 //! A stage serves one segment, or the segments of a layer side by side (`LayerInter`, `LayerDeinter`). Its items are the

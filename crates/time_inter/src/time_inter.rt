@@ -32,7 +32,7 @@ impl<const I: usize> TimeInter<I> {
     ghost use Rattle.delay_line.specs.Stages.{StandsFor, new_bank};
     ghost use Rattle.time_inter.specs.Layouts.{inter_layout};
 
-    /// An interleaver for the mode's carriers, whose paths hold zeros. Only memory can be wanting.
+    /// An interleaver for the mode's carriers, whose paths hold zeros. Fails only if memory runs out.
     pub fn open(alloc: Global, mode: Mode) -> Result<Self, NoMemory>
         requires { I ≤ 16 }
         ensures zeros { IfOk result (λ stage. stage ≡ new_bank (inter_layout I (carriers mode))) }

@@ -1,4 +1,4 @@
--- What a decoder keeps of the bits that it read (ARIB STD-B31 3.8).
+-- What a decoder keeps of the bits that it read.
 use Rattle.std.specs.Prelude.{◌≡◌, ℕ, ◌+◌, ◌-◌, ◌*◌, ◌/◌, ◌%◌, ◌<◌, ◌≤◌, min, Bool, false, List, length, slice_index_or}
 use Rattle.isdbt_base.specs.declared.kinds.Rate.{Rate}
 use Rattle.isdbt_base.specs.Numbers.{rate_steps, rate_bits}

@@ -1,5 +1,5 @@
-//! The inner decoder: the input bits of the inner code from bits that were read, of which some may be wrong (ARIB STD-B31
-//! 3.8; the coded bits of `conv_punct`).
+//! The inner decoder: the input bits of the inner code from bits that were read, of which some may be wrong
+//! (ARIB STD-B31 chapter 3; the coded bits of `conv_punct`).
 //!
 //! The cost of a list of input bits is the count of places where its coded bits differ from the bits that were read. The
 //! least path over n steps is the list of n bits of least cost; among lists of equal cost the one that is first when read

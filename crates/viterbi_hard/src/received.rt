@@ -10,18 +10,22 @@ use isdbt_base::Rate;
 pub enum Decision {
     /// The output was not sent: it costs nothing.
     Punctured,
+    /// A 0 was read.
     Zero,
+    /// A 1 was read.
     One,
 }
 
 /// What was read of one step.
 #[derive(Clone, Copy)]
 pub struct Received {
+    /// In the place of X.
     pub x: Decision,
+    /// In the place of Y.
     pub y: Decision,
 }
 
-/// Whether X of a step of the puncturing pattern is sent (ARIB STD-B31 3.8).
+/// Whether X of a step of the puncturing pattern is sent.
 #[inline(always)]
 fn sends_x(rate: Rate, step: u32) -> bool
     ensures { result ≡ sends_x rate step }
@@ -35,7 +39,7 @@ fn sends_x(rate: Rate, step: u32) -> bool
     }
 }
 
-/// Whether Y of a step of the puncturing pattern is sent (ARIB STD-B31 3.8).
+/// Whether Y of a step of the puncturing pattern is sent.
 #[inline(always)]
 fn sends_y(rate: Rate, step: u32) -> bool
     ensures { result ≡ sends_y rate step }

@@ -1,6 +1,6 @@
 use Rattle.std.proofs.Common.{◌≡◌, ◌+◌, ◌-◌, ◌*◌, ap, arith, subst}
 use Rattle.isdbt_base.specs.Numbers.{rate_steps, rate_bits}
-use Rattle.conv_punct.specs.Outputs.{AreOutputs, AreCoded, ChangesOnly}
+use Rattle.conv_punct.specs.MotherCode.{AreMotherBits, AreCoded, ChangesOnly}
 use Rattle.conv_punct.proofs.ListLaws.{AreCoded-more, ChangesOnly-more}
 use Rattle.conv_punct.proofs.puncture.put_patterns.Goals as goal
 
@@ -20,7 +20,7 @@ loop-done-preserved c =
     record {
       place = omega (arith, c.put_pattern-end.ensures.end, c.loop-done.invariant.place);
       coded = λ u i before outputs place. (
-          let fewer : AreOutputs c.args.outputs.now (last + k) u i = record { x = λ d h. outputs.x d (omega (arith, steps, all)); y = λ d h. outputs.y d (omega (arith, steps, all)) } in
+          let fewer : AreMotherBits c.args.outputs.now (last + k) u i = record { x = λ d h. outputs.x d (omega (arith, steps, all)); y = λ d h. outputs.y d (omega (arith, steps, all)) } in
           let number : n * (before + done) ≡ n * before + n * done = omega arith in
           let part = c.put_pattern-end.ensures.coded u i (before + done) fewer (omega (arith, place, steps, all)) in
           subst (λ m. AreCoded rate u (n * before) new c.args.at m) count (AreCoded-more rate u (n * before) (n * (before + done)) c.loop-done.out new c.args.at (n * done) c.loop-done.end n c.loop-done.invariant.place number c.put_pattern-end.ensures.others (c.loop-done.invariant.coded u i before outputs place) part));

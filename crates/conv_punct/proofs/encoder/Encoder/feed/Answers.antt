@@ -4,7 +4,7 @@ use Rattle.std.proofs.Math.Nat.{mul-le-mul_left}
 use Rattle.std.proofs.lemmas.List.{length-append}
 use Rattle.isdbt_base.specs.Numbers.{rate_steps, rate_bits}
 use Rattle.conv_punct.specs.CodedBits.{bit_of, earlier_bit}
-use Rattle.conv_punct.specs.Outputs.{word_bit, AreNewest, AreOutputs, AreCoded, ChangesOnly}
+use Rattle.conv_punct.specs.MotherCode.{word_bit, AreNewest, AreMotherBits, AreCoded, ChangesOnly}
 use Rattle.conv_punct.specs.StandsFor.{StandsFor, BeginsWith, coded_size, bits_of}
 use Rattle.conv_punct.proofs.FeedLaws.{unit-within, patterns-within, patterns-all, whole-patterns, whole-sum, length-piece, piece-bits, newest-fed, newest-six, newest-six-lt}
 use Rattle.conv_punct.proofs.ListLaws.{AreCoded-more, ChangesOnly-more, ChangesOnly-none}
@@ -58,8 +58,8 @@ loop-index-preserved c =
           let u = bit_of stream in
           let before = 8 * length fed / k + patterns * m in
           let i = 8 * (length fed + size * m) + 8 * size in
-          let outputs = c.outputs_of.ensures u (8 * size) i (omega arith) (λ d h. joined fed stream stands begins d (omega arith)) in
-          let told : AreOutputs c.outputs_of.result (k * patterns) u i = subst (λ n. AreOutputs c.outputs_of.result n u i) whole outputs in
+          let outputs = c.mother_code_of.ensures u (8 * size) i (omega arith) (λ d h. joined fed stream stands begins d (omega arith)) in
+          let told : AreMotherBits c.mother_code_of.result (k * patterns) u i = subst (λ n. AreMotherBits c.mother_code_of.result n u i) whole outputs in
           let fed_whole = whole-patterns rate (8 * length fed) stands.step in
           let part : 8 * size * m ≡ k * patterns * m = ap (λ x. x * m) whole in
           let number : n * before ≡ coded_size rate (length fed) + n * (patterns * m) = omega arith in

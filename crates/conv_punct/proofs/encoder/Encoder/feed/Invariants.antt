@@ -1,7 +1,7 @@
 use Rattle.std.proofs.Common.{◌≡◌, ℕ, ◌+◌, ◌*◌, List, ◌++◌, length}
 use Rattle.isdbt_base.specs.Numbers.{rate_bits}
 use Rattle.conv_punct.specs.CodedBits.{bit_of}
-use Rattle.conv_punct.specs.Outputs.{AreNewest, AreCoded, ChangesOnly}
+use Rattle.conv_punct.specs.MotherCode.{AreNewest, AreCoded, ChangesOnly}
 use Rattle.conv_punct.specs.StandsFor.{StandsFor, BeginsWith, coded_size}
 use Rattle.conv_punct.proofs.encoder.Encoder.feed.Given as goal
 

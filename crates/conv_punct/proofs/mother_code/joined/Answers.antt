@@ -1,8 +1,8 @@
 use Rattle.std.proofs.Common.{◌≡◌, ◌+◌, ◌-◌, ◌*◌, ◌<◌, get_or, length, arith, ap, sym, ◌∙◌}
 use Rattle.conv_punct.specs.CodedBits.{earlier_bit}
-use Rattle.conv_punct.specs.Outputs.{word_bit}
+use Rattle.conv_punct.specs.MotherCode.{word_bit}
 use Rattle.conv_punct.proofs.WordLaws.{AreNewest-byte, bits_of-byte}
-use Rattle.conv_punct.proofs.outputs.joined.Goals as goal
+use Rattle.conv_punct.proofs.mother_code.joined.Goals as goal
 
 pub loop-byte-preserved : goal.loop-byte-preserved
 loop-byte-preserved c = λ u i newest inputs.

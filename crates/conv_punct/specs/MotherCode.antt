@@ -2,7 +2,7 @@
 use Rattle.std.specs.Prelude.{◌≡◌, ℕ, ◌+◌, ◌-◌, ◌<◌, ◌≤◌, ◌==◌, Bool, false, List, slice_index_or}
 use Rattle.std.specs.Int.{bit_at}
 use Rattle.isdbt_base.specs.declared.kinds.Rate.{Rate}
-use Rattle.conv_punct.specs.declared.outputs.Outputs.{Outputs}
+use Rattle.conv_punct.specs.declared.mother_code.MotherBits.{MotherBits}
 use Rattle.conv_punct.specs.CodedBits.{earlier_bit, x_bit, y_bit, coded_bit}
 
 -- bit d of a number, the lowest being bit 0
@@ -14,7 +14,7 @@ abbrev pub AreNewest : ℕ → ℕ → (ℕ → Bool) → ℕ → Type 0
 AreNewest word count u i = (d : ℕ) → d < count → word_bit word d ≡ earlier_bit u i (d + 1)
 
 -- the low so many bits of two numbers are the outputs of the steps before step i, those of the newest lowest
-pub record AreOutputs (outputs : Outputs) (count : ℕ) (u : ℕ → Bool) (i : ℕ) : Type 0 where
+pub record AreMotherBits (outputs : MotherBits) (count : ℕ) (u : ℕ → Bool) (i : ℕ) : Type 0 where
   pub x : (d : ℕ) → d < count → word_bit outputs.x d ≡ x_bit u (i - 1 - d)
   pub y : (d : ℕ) → d < count → word_bit outputs.y d ≡ y_bit u (i - 1 - d)
 

@@ -1,13 +1,15 @@
 //! The outputs of the mother code.
 
 ghost use Rattle.std.specs.Prelude.{◌≡◌, ℕ, ◌+◌, ◌*◌, ◌<◌, ◌≤◌, Bool, length};
-ghost use Rattle.conv_punct.specs.Outputs.{AreNewest, AreOutputs};
+ghost use Rattle.conv_punct.specs.MotherCode.{AreNewest, AreMotherBits};
 ghost use Rattle.conv_punct.specs.StandsFor.{bits_of};
 
-/// Outputs of some steps: X and Y of the newest step are the lowest bits.
+/// Outputs of the mother code of some steps: X and Y of the newest step are the lowest bits.
 #[derive(Clone, Copy, Debug)]
-pub struct Outputs {
+pub struct MotherBits {
+    /// Of each step its X.
     pub x: u64,
+    /// Of each step its Y.
     pub y: u64,
 }
 
@@ -23,12 +25,12 @@ pub fn joined(inputs: u64, bytes: &[u8]) -> u64
     word
 }
 
-/// The outputs of the inputs' steps, the newest lowest (ARIB STD-B31 3.8). Those of the six oldest steps mean nothing.
-pub fn outputs_of(inputs: u64) -> Outputs
-    ensures { (u : ℕ → Bool) (count i : ℕ) → count ≤ i → AreNewest inputs (count + 6) u i → AreOutputs result count u i }
+/// The outputs of the mother code of the inputs' steps, the newest lowest. Those of the six oldest steps mean nothing.
+pub fn mother_code_of(inputs: u64) -> MotherBits
+    ensures { (u : ℕ → Bool) (count i : ℕ) → count ≤ i → AreNewest inputs (count + 6) u i → AreMotherBits result count u i }
 {
     let both = inputs ^ (inputs >> 2) ^ (inputs >> 3) ^ (inputs >> 6);
-    Outputs {
+    MotherBits {
         x: both ^ (inputs >> 1),
         y: both ^ (inputs >> 5),
     }

@@ -1,5 +1,5 @@
 use Rattle.conv_punct.proofs.WordLaws.{x_word-bit, y_word-bit}
-use Rattle.conv_punct.proofs.outputs.outputs_of.Goals as goal
+use Rattle.conv_punct.proofs.mother_code.mother_code_of.Goals as goal
 
 pub returns : goal.returns
 returns c = λ u count i enough newest. record {
