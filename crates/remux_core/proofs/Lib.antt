@@ -1,9 +1,8 @@
-pub mod Finding
 pub mod Places
 pub mod Parts
 pub mod Readings
 pub mod Refusing
-pub mod Judging
+pub mod PacketFaults
 pub mod Placing
 pub mod Progress
 pub mod Made

@@ -14,7 +14,7 @@ use Rattle.remux_core.specs.Multiplex.{filled, placed_before, packet_count}
 use Rattle.remux_core.specs.Refusals.{seat_of, places, truncated_in, places_bad_sync, bad_sync_in}
 use Rattle.remux_core.specs.Parts.{HasSync}
 use Rattle.remux_core.specs.Reading.{part_of}
-use Rattle.remux_core.proofs.Finding.{find-none, find-first}
+use Rattle.isdbt_base.proofs.Finding.{find-none, find-first}
 
 -- a part of the front of a list is that part of the list
 pub window : {X : Type 0} (k i m : ℕ) (xs : List X) → i + k ≤ m → take k (drop i (take m xs)) ≡ take k (drop i xs)

@@ -15,7 +15,7 @@ use Rattle.remux_core.specs.declared.inputs.Inputs.{Inputs}
 use Rattle.remux_core.specs.Multiplex.{data_frames, frame_count, packet_count, written_frame}
 use Rattle.remux_core.specs.Refusals.{refusal, is_there, seat_of}
 use Rattle.remux_core.specs.Frames.{packets_of}
-use Rattle.remux_core.specs.Judging.{OfPackets}
+use Rattle.remux_core.specs.PacketFaults.{OfPackets}
 use Rattle.remux_core.specs.Parts.{HasSync, IsWhole, IsGood}
 use Rattle.remux_core.specs.Answers.{IsPlain, IsUsed, Tells, Took, bytes_before, remux_command, remux_account, TookAtMost, ReadStopped, RemuxAnswer, DataDone}
 use Rattle.remux_core.specs.Reading.{input_of, StandsAt, IsReady, AreRead}

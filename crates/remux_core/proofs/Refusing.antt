@@ -21,7 +21,7 @@ use Rattle.remux_core.specs.Parts.{HasSync, IsWhole, IsGood, Says}
 use Rattle.remux_core.specs.Answers.{IsPlain}
 use Rattle.remux_core.specs.Reading.{input_of, IsRead}
 use Rattle.remux_core.specs.declared.inputs.Inputs.{Inputs}
-use Rattle.remux_core.specs.Judging.{cut_fault, sync_fault}
+use Rattle.remux_core.specs.PacketFaults.{cut_fault, sync_fault}
 use Rattle.remux_core.proofs.Places.{filled-one, placed_before-one}
 use Rattle.remux_core.proofs.Parts.{length-part_of, truncated-whole, truncated-full, truncated-ended, truncated-cut, bad_sync-none, bad_sync-first}
 
@@ -181,12 +181,12 @@ refusal-read p input limit f a b c pa pb pc plain less ra rb rc sa sb sc =
     ∙ sym (skip (too_long_at p input limit f) (truncated_in p input f A ∷ truncated_in p input f B ∷ truncated_in p input f C ∷ bad_sync_in p input f A ∷ bad_sync_in p input f B ∷ bad_sync_in p input f C ∷ []) (too_long-none p input limit f less))
 
 -- the same, where the packets before the parts were counted by the room of a frame
-pub refusal-judged : (p : Schedule) (input : Layer → List ℕ) (limit f na nb nc : ℕ) (a b c : LayerInput) (pa pb pc : Part) → IsPlain p → f < limit → vec_len a.bytes ≡ 188 * packets_of p.first A → vec_len b.bytes ≡ 188 * packets_of p.first B → vec_len c.bytes ≡ 188 * packets_of p.first C →
+pub refusal-of_parts : (p : Schedule) (input : Layer → List ℕ) (limit f na nb nc : ℕ) (a b c : LayerInput) (pa pb pc : Part) → IsPlain p → f < limit → vec_len a.bytes ≡ 188 * packets_of p.first A → vec_len b.bytes ≡ 188 * packets_of p.first B → vec_len c.bytes ≡ 188 * packets_of p.first C →
     na ≡ f * (vec_len a.bytes / 188) → nb ≡ f * (vec_len b.bytes / 188) → nc ≡ f * (vec_len c.bytes / 188) →
     IsRead (packets_of p.first A) (input A) f a → IsRead (packets_of p.first B) (input B) f b → IsRead (packets_of p.first C) (input C) f c →
     Says (take a.count a.bytes.items) pa → Says (take b.count b.bytes.items) pb → Says (take c.count c.bytes.items) pc →
     option_or (option_or (option_or (option_or (option_or (cut_fault (seat_of A) pa) (cut_fault (seat_of B) pb)) (cut_fault (seat_of C) pc)) (sync_fault (seat_of A) na pa)) (sync_fault (seat_of B) nb pb)) (sync_fault (seat_of C) nc pc) ≡ refusal p input limit f
-refusal-judged p input limit f na nb nc a b c pa pb pc plain less va vb vc ea eb ec ra rb rc sa sb sc =
+refusal-of_parts p input limit f na nb nc a b c pa pb pc plain less va vb vc ea eb ec ra rb rc sa sb sc =
     let cuts = option_or (option_or (cut_fault (seat_of A) pa) (cut_fault (seat_of B) pb)) (cut_fault (seat_of C) pc) in
     ap (λ n. option_or (option_or (option_or cuts (sync_fault (seat_of A) n pa)) (sync_fault (seat_of B) nb pb)) (sync_fault (seat_of C) nc pc)) (counted na (vec_len a.bytes) (packets_of p.first A) va ea)
     ∙ ap (λ n. option_or (option_or (option_or cuts (sync_fault (seat_of A) (f * packets_of p.first A) pa)) (sync_fault (seat_of B) n pb)) (sync_fault (seat_of C) nc pc)) (counted nb (vec_len b.bytes) (packets_of p.first B) vb eb)

@@ -4,4 +4,4 @@ pub mod Parts
 pub mod Frames
 pub mod Answers
 pub mod Reading
-pub mod Judging
+pub mod PacketFaults

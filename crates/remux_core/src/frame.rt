@@ -28,7 +28,7 @@ fn tag_of(plan: &Plan, frame: u32) -> FrameTag
 }
 
 /// Makes a frame of the packets in `out`, and writes it.
-pub fn put_frame<K: Sink>(
+pub fn write_frame<K: Sink>(
     plan: &Plan,
     order: &FrameOrder,
     frame: u32,

@@ -5,10 +5,10 @@ ghost use Rattle.edge_io.specs.Causes.{Reading, ShelfCause};
 ghost use Rattle.edge_io.specs.Known.{drop_known};
 ghost use Rattle.edge_io.specs.Seats.{OthersKeep};
 
-use crate::packets::PACKET;
 use edge_io::{Failed, Seat, Shelf, fill};
-use isdbt_base::NoMemory;
+use isdbt_base::{NoMemory, zeros};
 use std::alloc::Global;
+use ts_packet::PACKET_BYTES;
 
 /// What was read of one layer for a frame, and whether its input has ended. A layer that is unused has ended at once.
 #[derive(Drop)]
@@ -29,7 +29,7 @@ impl LayerInput {
         ensures used { IfOk result (λ input. 0 < packets → input.ended ≡ false) }
         ensures unused { IfOk result (λ input. packets ≡ 0 → input.ended ≡ true) }
     {
-        let bytes = vec![in alloc; 0; PACKET * packets as usize]?;
+        let bytes = zeros(alloc, PACKET_BYTES * packets as usize)?;
         Ok(LayerInput {
             seat,
             bytes,

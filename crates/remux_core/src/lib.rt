@@ -7,9 +7,9 @@
 mod fault;
 mod frame;
 mod inputs;
-mod judge;
 mod layer_input;
 mod packets;
+mod refusal;
 mod remultiplex;
 
 pub use fault::RemuxFault;

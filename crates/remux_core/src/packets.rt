@@ -3,11 +3,7 @@
 ghost use Rattle.std.specs.Prelude.{◌≤◌, ◌^◌, length};
 ghost use Rattle.remux_core.specs.Parts.{Says};
 
-/// Bytes of a packet.
-pub const PACKET: usize = 188;
-
-/// The first byte of a packet.
-const SYNC: u8 = 0x47;
+use ts_packet::{PACKET_BYTES, SYNC};
 
 /// What the bytes of some packets are.
 #[derive(Clone, Copy, Debug, PartialEq, Eq)]
@@ -20,17 +16,17 @@ pub enum Part {
     Cut(u32),
 }
 
-/// Judges the bytes of packets that were read one after another.
-pub fn judge(part: &[u8]) -> Part
+/// Checks the bytes of packets that were read one after another.
+pub fn check_packets(part: &[u8]) -> Part
     requires { length part.now ≤ 2 ^ 32 }
     ensures { Says part.now result }
 {
-    let over = part.len() % PACKET;
+    let over = part.len() % PACKET_BYTES;
     if over != 0 {
         return Part::Cut(over as u32);
     }
-    for packet in 0..(part.len() / PACKET) as u32 {
-        if part[packet as usize * PACKET] != SYNC {
+    for packet in 0..(part.len() / PACKET_BYTES) as u32 {
+        if part[packet as usize * PACKET_BYTES] != SYNC {
             return Part::NoSync(packet);
         }
     }

@@ -14,16 +14,13 @@ ghost use Rattle.remux_core.specs.Reading.{input_of, HasSeats};
 ghost use Rattle.remux_core.specs.Refusals.{seat_of};
 
 use crate::fault::RemuxFault;
-use crate::frame::put_frame;
+use crate::frame::write_frame;
 use crate::inputs::Inputs;
-use crate::judge::fault_of;
+use crate::refusal::fault_of;
 use edge_io::{Failed, Shelf, Sink};
 use frame_order::{FrameOrder, LayerPackets, order};
-use isdbt_base::{Plan, slots};
+use isdbt_base::{BROADCAST_BYTES, Plan, slots, zeros};
 use std::alloc::Global;
-
-/// Bytes of a broadcast packet.
-const BROADCAST_PACKET: usize = 204;
 
 /// The packets that were read for a frame.
 fn packets_of(inputs: &Inputs) -> LayerPackets<'_>
@@ -50,7 +47,7 @@ fn no_packets() -> LayerPackets<'static>
     }
 }
 
-/// The frames with input packets: reads, judges and writes one after another, and answers how many there are.
+/// The frames with input packets: reads, checks and writes one after another, and answers how many there are.
 fn write_data<H: Shelf, K: Sink>(
     plan: &Plan,
     order: &FrameOrder,
@@ -91,7 +88,7 @@ fn write_data<H: Shelf, K: Sink>(
             Some(fault) => return Err(fault),
             None => {}
         }
-        match put_frame(plan, order, frame, &packets_of(inputs), out, sink) {
+        match write_frame(plan, order, frame, &packets_of(inputs), out, sink) {
             Ok(()) => {}
             Err(Failed) => return Err(RemuxFault::WriteFault),
         }
@@ -134,7 +131,7 @@ fn drain<K: Sink>(
         if frame >= limit {
             return Err(RemuxFault::TooLong);
         }
-        match put_frame(plan, order, frame, &no_packets(), out, sink) {
+        match write_frame(plan, order, frame, &no_packets(), out, sink) {
             Ok(()) => {}
             Err(Failed) => return Err(RemuxFault::WriteFault),
         }
@@ -143,7 +140,7 @@ fn drain<K: Sink>(
 }
 
 /// Writes the frames of a plan and of the inputs at the seats of its layers, at most `limit` of them, and answers how many
-/// were written. Frame after frame is read, layer A first, judged and written: no byte past the frame in work is asked for.
+/// were written. Frame after frame is read, layer A first, checked and written: no byte past the frame in work is asked for.
 ///
 /// All memory is taken before the first read, so want of memory comes with nothing read and nothing written.
 pub fn remux<H: Shelf, K: Sink>(
@@ -175,13 +172,10 @@ pub fn remux<H: Shelf, K: Sink>(
         return Err(RemuxFault::NoMemory);
     };
     let slots = slots(at.mode, at.guard) as usize;
-    let Ok(mut out) = vec![in alloc; 0; BROADCAST_PACKET * slots] else {
+    let Ok(mut out) = zeros(alloc, BROADCAST_BYTES * slots) else {
         return Err(RemuxFault::NoMemory);
     };
-    let frames = match write_data(plan, &order, limit, &mut inputs, &mut out, shelf, sink) {
-        Ok(frames) => frames,
-        Err(fault) => return Err(fault),
-    };
+    let frames = write_data(plan, &order, limit, &mut inputs, &mut out, shelf, sink)?;
     let delay = at.setting.max_delay(at.mode);
     drain(plan, &order, frames, delay, limit, &mut out, sink)
 }

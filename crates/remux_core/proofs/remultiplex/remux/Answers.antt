@@ -16,5 +16,5 @@ write_data-requires-clause-unused g c = λ x none. c.in-Ok-open.ensures.unused x
 pub returns-clause-answer : goal.returns-clause-answer
 returns-clause-answer g c = λ input tells.
     let plain : IsPlain c.args.plan.now = record { no_switch = c.requires.no_switch; accepted = c.acceptance_law.ensures.first } in
-    let done = c.in-Ok-write_data.ensures.answer input tells in
+    let done = c.in_ok-frames.ensures.answer input tells in
     whole_answer c.args.plan.now input _ _ _ _ _ _ c.drain.result plain tells.unused done (c.drain.ensures.answer input _ tells.unused done.frames_is done.passed done.written)

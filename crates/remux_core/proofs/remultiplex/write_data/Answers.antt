@@ -49,13 +49,13 @@ returns-in-Some-clause-answer g c = λ input tells.
     let why = c.in-Some.ensures.refusal _ input c.args.limit c.requires.plain (omega arith) (λ x. c.in-Ok.ensures.room x ∙ c.loop-frame.invariant.room_is x) turn.read.each in
     packets_refused _ input _ _ _ _ c.in-Some.fault c.in-Some.ensures.kind (refused _ input _ c.loop-frame.frame _ _ _ _ _ _ _ turn (sym why))
 
-pub returns-in-Err-put_frame-clause-answer : goal.returns-in-Err-put_frame-clause-answer
-returns-in-Err-put_frame-clause-answer g c = λ input tells.
+pub returns-in-Err-write_frame-clause-answer : goal.returns-in-Err-write_frame-clause-answer
+returns-in-Err-write_frame-clause-answer g c = λ input tells.
     let so_far = c.loop-frame.invariant.told input tells in
     let turn : Turn _ input _ _ _ _ _ _ _ _ = record { so_far = so_far; read = c.in-Ok.ensures.answer _ input c.loop-frame.frame so_far.ready; room = c.in-Ok.ensures.room; ended = c.in-Ok.ensures.ended } in
     let why = c.in-None.ensures.refusal _ input c.args.limit c.requires.plain (omega arith) (λ x. c.in-Ok.ensures.room x ∙ c.loop-frame.invariant.room_is x) turn.read.each in
     let some = c.if-is_empty.ensures.some refl in
-    let failed = c.in-Err-put_frame.ensures.some in
+    let failed = c.in-Err-write_frame.ensures.some in
     let made = made_of_read _ _ input c.loop-frame.frame _ c.packets_of.result c.requires.plain c.requires.order c.packets_of.ensures.bytes turn.read.each in
     let part = wrote_some _ _ failed.0 _ _ made failed.1 failed.2 in
     write_failed _ input _ c.loop-frame.frame failed.0 _ _ _ _ _ _ _ c.requires.plain turn (sym why) (some_more _ input _ c.loop-frame.frame _ _ _ _ _ _ turn some.0 some.1) part.0 part.1
@@ -67,7 +67,7 @@ returns-then-have_ended-clause-answer g c = λ input tells.
     let why = c.in-None.ensures.refusal _ input c.args.limit c.requires.plain (omega arith) (λ x. c.in-Ok.ensures.room x ∙ c.loop-frame.invariant.room_is x) turn.read.each in
     let some = c.if-is_empty.ensures.some refl in
     let made = made_of_read _ _ input c.loop-frame.frame _ c.packets_of.result c.requires.plain c.requires.order c.packets_of.ensures.bytes turn.read.each in
-    last_frame _ input _ c.loop-frame.frame _ _ _ _ _ _ _ c.requires.plain turn (c.in-None.ensures.good refl) (sym why) (some_more _ input _ c.loop-frame.frame _ _ _ _ _ _ turn some.0 some.1) (c.if-have_ended.ensures.all refl) (wrote_all _ _ _ _ made c.in-Ok-put_frame.ensures.ok)
+    last_frame _ input _ c.loop-frame.frame _ _ _ _ _ _ _ c.requires.plain turn (c.in-None.ensures.good refl) (sym why) (some_more _ input _ c.loop-frame.frame _ _ _ _ _ _ turn some.0 some.1) (c.if-have_ended.ensures.all refl) (wrote_all _ _ _ _ made c.in-Ok-write_frame.ensures.ok)
 
 pub loop-frame-preserved : goal.loop-frame-preserved
 loop-frame-preserved g c = record {
@@ -81,7 +81,7 @@ loop-frame-preserved g c = record {
       let why = c.in-None.ensures.refusal _ input c.args.limit c.requires.plain (omega arith) (λ x. c.in-Ok.ensures.room x ∙ c.loop-frame.invariant.room_is x) turn.read.each in
       let some = c.if-is_empty.ensures.some refl in
       let made = made_of_read _ _ input c.loop-frame.frame _ c.packets_of.result c.requires.plain c.requires.order c.packets_of.ensures.bytes turn.read.each in
-      next _ input _ c.loop-frame.frame _ _ _ _ _ _ _ c.requires.plain turn (c.in-None.ensures.good refl) (sym why) (some_more _ input _ c.loop-frame.frame _ _ _ _ _ _ turn some.0 some.1) (wrote_all _ _ _ _ made c.in-Ok-put_frame.ensures.ok));
+      next _ input _ c.loop-frame.frame _ _ _ _ _ _ _ c.requires.plain turn (c.in-None.ensures.good refl) (sym why) (some_more _ input _ c.loop-frame.frame _ _ _ _ _ _ turn some.0 some.1) (wrote_all _ _ _ _ made c.in-Ok-write_frame.ensures.ok));
   room = search rules;
   still_open = c.in-Ok.ensures.still_open ∙ c.loop-frame.invariant.still_open;
   shelf_kept = search rules;

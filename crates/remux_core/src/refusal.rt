@@ -5,7 +5,7 @@ ghost use Rattle.isdbt_base.specs.declared.kinds.Layer.{Layer as Which};
 ghost use Rattle.isdbt_base.specs.Plans.{Schedule};
 ghost use Rattle.remux_core.specs.Answers.{IsPlain};
 ghost use Rattle.remux_core.specs.Frames.{packets_of};
-ghost use Rattle.remux_core.specs.Judging.{cut_fault, sync_fault, OfPackets};
+ghost use Rattle.remux_core.specs.PacketFaults.{cut_fault, sync_fault, OfPackets};
 ghost use Rattle.remux_core.specs.Parts.{Says, IsGood};
 ghost use Rattle.remux_core.specs.Reading.{input_of, IsRead};
 ghost use Rattle.remux_core.specs.Refusals.{refusal};
@@ -13,8 +13,9 @@ ghost use Rattle.remux_core.specs.Refusals.{refusal};
 use crate::fault::RemuxFault;
 use crate::inputs::Inputs;
 use crate::layer_input::LayerInput;
-use crate::packets::{PACKET, Part, judge};
+use crate::packets::{Part, check_packets};
 use edge_io::Seat;
+use ts_packet::PACKET_BYTES;
 
 /// The cut of an unfinished packet.
 fn cut_fault(seat: Seat, part: Part) -> Option<RemuxFault>
@@ -47,7 +48,7 @@ fn packets_before(input: &LayerInput, frame: u32) -> u64
     ensures value { result ≡ frame * (vec_len input.now.bytes / 188) }
     ensures most { result ≤ 2 ^ 40 }
 {
-    u64::from(frame) * (input.bytes.len() / PACKET) as u64
+    u64::from(frame) * (input.bytes.len() / PACKET_BYTES) as u64
 }
 
 /// Why the frame is refused for the packets that were read for it: first an unfinished packet, then one without sync byte.
@@ -63,9 +64,9 @@ pub fn fault_of(inputs: &Inputs, frame: u32) -> Option<RemuxFault>
     ensures kind { IfSome result OfPackets }
     ensures good { result ≡ None → (x : Which) → IsGood (take (input_of inputs.now x).count (input_of inputs.now x).bytes.items) }
 {
-    let a = judge(inputs.a.part());
-    let b = judge(inputs.b.part());
-    let c = judge(inputs.c.part());
+    let a = check_packets(inputs.a.part());
+    let b = check_packets(inputs.b.part());
+    let c = check_packets(inputs.c.part());
     cut_fault(Seat::A, a)
         .or(cut_fault(Seat::B, b))
         .or(cut_fault(Seat::C, c))

@@ -7,7 +7,7 @@ use Rattle.edge_io.specs.declared.shelf.Seat.TheVariants as seats
 use Rattle.remux_core.specs.declared.fault.RemuxFault.{RemuxFault}
 use Rattle.remux_core.specs.declared.packets.Part.{Part}
 use Rattle.remux_core.specs.declared.packets.Part.TheVariants.{Good, NoSync, Cut}
-use Rattle.remux_core.specs.Judging.{cut_fault, sync_fault, OfPackets}
+use Rattle.remux_core.specs.PacketFaults.{cut_fault, sync_fault, OfPackets}
 
 either : (a b : Option RemuxFault) → IfSome a OfPackets → IfSome b OfPackets → IfSome (option_or a b) OfPackets
 either None b ka kb = kb

@@ -2,7 +2,7 @@ use Rattle.std.proofs.Common.{◌≡◌, ap, sym, ◌∙◌}
 use Rattle.frame_order.specs.OrderedFrame.{ordered_frame}
 use Rattle.frame_order.specs.LayerBytes.{layer_packet}
 use Rattle.remux_core.specs.Frames.{frame_made}
-use Rattle.remux_core.proofs.frame.put_frame.Goals as goal
+use Rattle.remux_core.proofs.frame.write_frame.Goals as goal
 
 pub returns-clause-ok : goal.returns-clause-ok
 unfolding frame_made
