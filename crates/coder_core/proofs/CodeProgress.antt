@@ -20,9 +20,9 @@ use Rattle.coder_core.specs.FrameChecks.{refusal}
 use Rattle.coder_core.specs.InputFrames.{first_head, slots_at, packets_before, frame_start, frame_at, packet_in, input_frames}
 use Rattle.coder_core.specs.SentCells.{epoch_frame_cells, plan_word}
 use Rattle.coder_core.specs.CodeRefusals.{search_refusal, has_byte_of, truncated, frame_refusal, coded_frame}
-use Rattle.coder_core.specs.Reading.{FilledTo, StoppedBelow}
+use Rattle.edge_io.specs.Reading.{FilledTo, StoppedBelow}
 use Rattle.coder_core.specs.Coder.{IsFrameOf}
-use Rattle.coder_core.specs.Answers.{IsPlain, Found, code_kind, code_command, EndAnswer}
+use Rattle.coder_core.specs.Answers.{IsPlain, Found, code_kind, code_command}
 use Rattle.coder_core.proofs.PlainFrames.{at_frame-plain, plain_slots, slots-plain, packets_before-plain, start-zero, start-more, start-rises, first_some-one, refusal-found, there-found, coded-found}
 use Rattle.coder_core.proofs.CodeStarts.{starts-found, starts-within, starts-next}
 
@@ -310,19 +310,3 @@ cells_are p input head f mode s none found is is' =
 
 pub wrote_some : (cells frame : List ℕ) (n : ℕ) (mid after : Option (List ℕ)) → cells ≡ frame → n < length cells → after ≡ append_known mid (take n cells) → (n < length frame) × (after ≡ append_known mid (take n frame))
 wrote_some cells frame n mid after same short wrote = (subst (λ (xs : List ℕ). n < length xs) same short, wrote ∙ ap (λ xs. append_known mid (take n xs)) same)
-
--- ---- the end at the limit
-
-pub end_answer : (p : Schedule) (input : List ℕ) (limit head held : ℕ) (frame : List ℕ) (left left' before now : Option (List ℕ)) (result : Result ℕ CodeFault) → 0 < limit → IsPlain p → 0 < plain_slots p → held ≡ 0 → Progress p input limit head limit held frame left before now
-    → EndAnswer limit (drop (frame_start p head limit + held) input) left' result → LoneAnswer code_kind (code_command p input limit) before now left' result
-end_answer p input limit head held frame left left' before now (Ok m) few plain some none so_far said = ended_at_limit p input limit head held m frame left left' before now none so_far said.0 said.1 said.2
-end_answer p input limit head held frame left left' before now (Err TooLong) few plain some none so_far said = too_long p input limit head held frame left left' before now plain some none so_far said.0 said.1
-end_answer p input limit head held frame left left' before now (Err (ReadFault seat)) few plain some none so_far said =
-    (let r = stopped_at_limit p input limit head held frame left left' before now few plain some none so_far said.1 in subst (λ s. ReadFailed (code_command p input limit).frames (λ g seat. Stopped (code_command p input limit) left' g) s before now) (sym said.0) r)
-end_answer p input limit head held frame left left' before now (Err (BadSync seat n)) few plain some none so_far said = absurd said
-end_answer p input limit head held frame left left' before now (Err (Truncated seat n)) few plain some none so_far said = absurd said
-end_answer p input limit head held frame left left' before now (Err (HeadMisplaced f s)) few plain some none so_far said = absurd said
-end_answer p input limit head held frame left left' before now (Err NoHead) few plain some none so_far said = absurd said
-end_answer p input limit head held frame left left' before now (Err (WrongCount f x n)) few plain some none so_far said = absurd said
-end_answer p input limit head held frame left left' before now (Err WriteFault) few plain some none so_far said = absurd said
-end_answer p input limit head held frame left left' before now (Err NoMemory) few plain some none so_far said = absurd said

@@ -9,7 +9,7 @@ use Rattle.ts_packet.specs.Packets.{piece, piece_count}
 use Rattle.coder_core.specs.declared.fault.CodeFault.{CodeFault}
 use Rattle.coder_core.specs.InputFrames.{first_head, bears_head, frame_start}
 use Rattle.coder_core.specs.CodeRefusals.{packet_refusal, ends_search, search_stop, search_end, search_refusal, starts_from, code_starts}
-use Rattle.coder_core.proofs.Finding.{find-passes}
+use Rattle.isdbt_base.proofs.Finding.{find-passes}
 
 -- ---- where the first head was found
 

@@ -4,8 +4,6 @@ pub mod Codable
 pub mod CodeProgress
 pub mod CodeStarts
 pub mod EpochFrames
-pub mod Filling
-pub mod Finding
 pub mod FirstCauses
 pub mod FrameSymbols
 pub mod Gathered

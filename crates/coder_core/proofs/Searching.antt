@@ -15,8 +15,8 @@ use Rattle.bts_info.specs.Information.{has_head}
 use Rattle.coder_core.specs.CodeRefusals.{search_limit, packet_refusal, looked_at, search_refusal}
 use Rattle.edge_io.specs.FrameAnswers.{frame_refused}
 use Rattle.coder_core.specs.Answers.{code_kind, StoppedInSearch, Found, SearchRefused, SearchFault, SearchAnswer}
-use Rattle.coder_core.specs.Reading.{FilledTo, StoppedBelow}
-use Rattle.coder_core.proofs.Finding.{find-none_of, find-first_of, find-passes}
+use Rattle.edge_io.specs.Reading.{FilledTo, StoppedBelow}
+use Rattle.isdbt_base.proofs.Finding.{find-none_of, find-first_of, find-passes}
 use Rattle.coder_core.proofs.CodeStarts.{search_stop-least}
 use Rattle.coder_core.proofs.FirstCauses.{no_cause, first_cause}
 

@@ -72,10 +72,3 @@ abbrev pub SearchAnswer : List ℕ → List ℕ → Option (List ℕ) → Result
 SearchAnswer input packet left (Ok (Some head)) = Found input head packet left
 SearchAnswer input packet left (Ok None) = (input ≡ []) × (left ≡ Some [])
 SearchAnswer input packet left (Err fault) = SearchFault input left fault (code_kind fault)
-
--- what the byte behind the limit of frames says: the input ends, or too many frames, or a read failed
-abbrev pub EndAnswer : ℕ → List ℕ → Option (List ℕ) → Result ℕ CodeFault → Type 0
-EndAnswer limit bytes left (Ok m) = (m ≡ limit) × (bytes ≡ []) × (left ≡ Some [])
-EndAnswer limit bytes left (Err TooLong) = (0 < length bytes) × (left ≡ Some (drop 1 bytes))
-EndAnswer limit bytes left (Err (ReadFault seat)) = (seat ≡ seats.In) × (left ≡ Some bytes)
-EndAnswer limit bytes left (Err fault) = ⊥

@@ -5,6 +5,5 @@ pub mod LayerPart
 pub mod SentCells
 pub mod CodeRefusals
 pub mod Answers
-pub mod Reading
 pub mod Symbols
 pub mod UsedLayers

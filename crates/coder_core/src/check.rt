@@ -7,20 +7,15 @@ ghost use Rattle.coder_core.specs.FrameChecks.{bad_sync_slot, misplaced_slot, la
 use crate::fault::CodeFault;
 use bts_info::{Info, layer_of, read};
 use edge_io::Seat;
-use isdbt_base::{Layer, Mode, Setting};
-
-/// Bytes of a broadcast packet.
-pub const PACKET: usize = 204;
-
-/// The first byte of a packet.
-pub const SYNC: u8 = 0x47;
+use isdbt_base::{BROADCAST_BYTES, Layer, Mode, Setting};
+use ts_packet::{PACKET_BYTES, SYNC};
 
 /// Slots of a frame.
 pub fn slots_of(frame: &[u8]) -> u32
     requires { length frame.now ≤ 2 ^ 32 }
     ensures value { result ≡ length frame.now / 204 }
 {
-    (frame.len() / PACKET) as u32
+    (frame.len() / BROADCAST_BYTES) as u32
 }
 
 /// The information in a slot of a frame.
@@ -28,7 +23,7 @@ fn info_in(frame: &[u8], slot: u32) -> Info
     requires { 204 * slot + 204 ≤ length frame.now }
     ensures { result ≡ fields_of (information_in frame.now slot) }
 {
-    let start = PACKET * slot as usize + 188;
+    let start = BROADCAST_BYTES * slot as usize + PACKET_BYTES;
     let mut bytes = [0u8; 8];
     bytes.copy_from_slice(&frame[start..start + 8]);
     read(&bytes)
@@ -69,7 +64,7 @@ fn bad_sync_slot(frame: &[u8]) -> Option<u32>
     ensures { result ≡ bad_sync_slot frame.now }
 {
     for slot in 0..slots_of(frame) {
-        if frame[PACKET * slot as usize] != SYNC {
+        if frame[BROADCAST_BYTES * slot as usize] != SYNC {
             return Some(slot);
         }
     }

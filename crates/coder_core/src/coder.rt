@@ -43,7 +43,7 @@ impl Coder {
     ghost use Rattle.coder_core.specs.Symbols.{first_symbols};
     ghost use Rattle.coder_core.specs.Coder.{mode_of, guard_of, setting_of, IsFrameOf, StandsFor};
 
-    /// A coder of an epoch that has seen no frame. Only memory can be wanting.
+    /// A coder of an epoch that has seen no frame. Fails only if memory runs out.
     pub fn open(
         alloc: Global,
         setting: &Setting,

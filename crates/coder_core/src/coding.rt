@@ -1,29 +1,24 @@
 //! Broadcast packets into cells.
 
-ghost use Rattle.std.specs.Prelude.{◌≡◌, ℕ, List, [], ◌+◌, ◌*◌, ◌%◌, ◌==◌, ◌≤◌, ◌<◌, Some, true, length, vec_len, take, OnOk, OnErr, IfOk, IfSome};
-ghost use Rattle.isdbt_base.specs.Numbers.{carriers, slots_per_frame};
+ghost use Rattle.std.specs.Prelude.{◌≡◌, ℕ, List, [], ◌+◌, ◌*◌, ◌%◌, ◌==◌, ◌≤◌, ◌<◌, Some, true, length, take, OnOk, OnErr};
+ghost use Rattle.isdbt_base.specs.Numbers.{slots_per_frame};
 ghost use Rattle.isdbt_base.specs.Frames.{FramePackets};
 ghost use Rattle.edge_io.specs.declared.shelf.Seat.TheVariants as seats;
 ghost use Rattle.edge_io.specs.Known.{append_known, ReachesRoom};
-ghost use Rattle.edge_io.specs.Causes.{HasCause, Reading, ShelfCause};
+ghost use Rattle.edge_io.specs.Causes.{HasCause};
 ghost use Rattle.coder_core.specs.FrameChecks.{CanCode};
 ghost use Rattle.coder_core.specs.SentCells.{epoch_frame_cells, frame_size, plan_word};
 ghost use Rattle.coder_core.specs.Coder.{mode_of, guard_of, setting_of, IsFrameOf, StandsFor};
-ghost use Rattle.edge_io.specs.FrameAnswers.{LoneAnswer, LoneCause, ReadingCause, AnswerRoom};
-ghost use Rattle.coder_core.specs.Answers.{IsPlain, Found, code_kind, code_command, SearchAnswer, EndAnswer};
+ghost use Rattle.edge_io.specs.FrameAnswers.{LoneAnswer, LoneCause, AnswerRoom};
+ghost use Rattle.coder_core.specs.Answers.{IsPlain, Found, code_kind, code_command};
 
-use crate::check::PACKET;
 use crate::coder::Coder;
 use crate::fault::CodeFault;
-use crate::reading::fill_behind;
 use crate::search::find_head;
-use edge_io::{Failed, Seat, Shelf, Sink, write_whole};
-use isdbt_base::{Mode, NoMemory, Plan, carriers, slots};
+use edge_io::{Failed, Seat, Shelf, Sink, ends, fill_behind, write_whole};
+use isdbt_base::{BROADCAST_BYTES, Plan, SYMBOLS, slots, symbol_size, zeros};
 use std::alloc::Global;
 use tmcc_word::{TmccInfo, word_of};
-
-/// Symbols of a frame.
-const SYMBOLS: usize = 204;
 
 /// The TMCC word of a frame of the plan.
 fn word_at(plan: &Plan, frame: u32) -> [bool; 204]
@@ -40,7 +35,7 @@ fn word_at(plan: &Plan, frame: u32) -> [bool; 204]
 }
 
 /// Codes a frame that can be coded, and writes its cells.
-fn put_frame<K: Sink>(
+fn write_cells<K: Sink>(
     plan: &Plan,
     coder: &mut Coder,
     number: u32,
@@ -68,19 +63,11 @@ fn put_frame<K: Sink>(
     write_whole(sink, cells)
 }
 
-/// Whether the input ends where the limit of frames is reached: reads one byte more.
-fn end_at_limit<H: Shelf>(limit: u32, frame: &mut [u8], shelf: &mut H) -> Result<u32, CodeFault>
-    requires is_open { H.is_open shelf.old seats.In ≡ true }
-    requires some { 0 < length frame.old }
-    ensures still_open { H.is_open shelf.new ≡ H.is_open shelf.old }
-    ensures answer { (bytes : List ℕ) → H.left shelf.old seats.In ≡ Some bytes → EndAnswer limit bytes (H.left shelf.new seats.In) result }
-    ensures cause { ReadingCause code_kind (H.faults shelf.old) (H.faults shelf.new) result }
-{
-    match fill_behind(shelf, 0, &mut frame[..1]) {
-        Ok(0) => Ok(limit),
-        Ok(_) => Err(CodeFault::TooLong),
-        Err(Failed) => Err(CodeFault::ReadFault(Seat::In)),
-    }
+/// Which frames of an input are coded: from the packet of the first head on, at most so many.
+#[derive(Clone, Copy)]
+struct FrameSpan {
+    head: u32,
+    limit: u32,
 }
 
 /// The frames from the first head on, whose packet stands at the front of the frame: reads, checks, codes and writes one
@@ -88,8 +75,7 @@ fn end_at_limit<H: Shelf>(limit: u32, frame: &mut [u8], shelf: &mut H) -> Result
 fn code_frames<H: Shelf, K: Sink>(
     plan: &Plan,
     coder: &mut Coder,
-    head: u32,
-    limit: u32,
+    span: FrameSpan,
     frame: &mut [u8],
     cells: &mut [u8],
     shelf: &mut H,
@@ -100,23 +86,23 @@ fn code_frames<H: Shelf, K: Sink>(
     requires guard { guard_of coder.old ≡ plan.now.first.guard }
     requires setting { setting_of coder.old ≡ plan.now.first.setting }
     requires fresh { (frames : FramePackets) → StandsFor coder.old frames 0 0 }
-    requires head { head < 65536 }
-    requires some { 0 < limit }
-    requires few { limit ≤ 16777216 }
+    requires head { span.head < 65536 }
+    requires some { 0 < span.limit }
+    requires few { span.limit ≤ 16777216 }
     requires size { length frame.old ≡ 204 * slots_per_frame plan.now.first.mode plan.now.first.guard }
     requires room { length cells.old ≡ frame_size plan.now.first.mode }
     requires is_open { H.is_open shelf.old seats.In ≡ true }
-    ensures answer { (input : List ℕ) → Found input head (take 204 frame.old) (H.left shelf.old seats.In)
-        → LoneAnswer code_kind (code_command plan.now input limit) (K.written sink.old) (K.written sink.new) (H.left shelf.new seats.In) result }
+    ensures answer { (input : List ℕ) → Found input span.head (take 204 frame.old) (H.left shelf.old seats.In)
+        → LoneAnswer code_kind (code_command plan.now input span.limit) (K.written sink.old) (K.written sink.new) (H.left shelf.new seats.In) result }
     ensures still_open { H.is_open shelf.new ≡ H.is_open shelf.old }
     ensures cause { LoneCause code_kind (H.faults shelf.old) (H.faults shelf.new) (K.faults sink.old) (K.faults sink.new) result }
     ensures sink_room { K.room sink.new ≡ K.room sink.old }
     ensures reached { AnswerRoom code_kind (K.room sink.old) (K.written sink.new) result }
 {
     let slots = u64::from(slots(plan.mode(), plan.guard()));
-    let mut held = PACKET;
-    for number in 0..limit {
-        let count = match fill_behind(shelf, held, frame) {
+    let mut held = BROADCAST_BYTES;
+    for number in 0..span.limit {
+        let count = match fill_behind(shelf, Seat::In, held, frame) {
             Ok(count) => count,
             Err(Failed) => return Err(CodeFault::ReadFault(Seat::In)),
         };
@@ -129,45 +115,25 @@ fn code_frames<H: Shelf, K: Sink>(
                 over: count as u32,
             });
         }
-        match coder.check(number, u64::from(head) + u64::from(number) * slots, frame) {
+        match coder.check(
+            number,
+            u64::from(span.head) + u64::from(number) * slots,
+            frame,
+        ) {
             Ok(()) => {}
             Err(fault) => return Err(fault),
         }
-        match put_frame(plan, coder, number, frame, cells, sink) {
+        match write_cells(plan, coder, number, frame, cells, sink) {
             Ok(()) => {}
             Err(Failed) => return Err(CodeFault::WriteFault),
         }
         held = 0;
     }
-    end_at_limit(limit, frame, shelf)
-}
-
-/// So many zero bytes.
-fn zeros(alloc: Global, size: usize) -> Result<Vec<u8>, NoMemory>
-    ensures { IfOk result (λ bytes. vec_len bytes ≡ size) }
-{
-    let bytes = vec![in alloc; 0; size]?;
-    Ok(bytes)
-}
-
-/// Bytes of a symbol of cells.
-fn symbol_size(mode: Mode) -> usize
-    ensures value { result ≡ 1 + 26 * carriers mode }
-    ensures most { result ≤ 9985 }
-{
-    1 + 26 * carriers(mode) as usize
-}
-
-/// Looks for the first frame head, whose packet then stands at the front of the frame.
-fn find_in<H: Shelf>(shelf: &mut H, frame: &mut [u8]) -> Result<Option<u32>, CodeFault>
-    requires is_open { H.is_open shelf.old seats.In ≡ true }
-    requires size { 204 ≤ length frame.old }
-    ensures still_open { H.is_open shelf.new ≡ H.is_open shelf.old }
-    ensures within { IfOk result (λ found. IfSome found (λ head. head < 65536)) }
-    ensures answer { (input : List ℕ) → H.left shelf.old seats.In ≡ Some input → SearchAnswer input (take 204 frame.new) (H.left shelf.new seats.In) result }
-    ensures cause { ReadingCause code_kind (H.faults shelf.old) (H.faults shelf.new) result }
-{
-    find_head(shelf, &mut frame[..PACKET])
+    match ends(shelf, Seat::In) {
+        Ok(true) => Ok(span.limit),
+        Ok(false) => Err(CodeFault::TooLong),
+        Err(Failed) => Err(CodeFault::ReadFault(Seat::In)),
+    }
 }
 
 /// Codes a stream with a coder that has seen no frame.
@@ -198,12 +164,13 @@ fn code_stream<H: Shelf, K: Sink>(
     ensures sink_room { K.room sink.new ≡ K.room sink.old }
     ensures reached { AnswerRoom code_kind (K.room sink.old) (K.written sink.new) result }
 {
-    let head = match find_in(shelf, frame) {
+    let head = match find_head(shelf, &mut frame[..BROADCAST_BYTES]) {
         Ok(Some(head)) => head,
         Ok(None) => return Ok(0),
         Err(fault) => return Err(fault),
     };
-    code_frames(plan, coder, head, limit, frame, cells, shelf, sink)
+    let span = FrameSpan { head, limit };
+    code_frames(plan, coder, span, frame, cells, shelf, sink)
 }
 
 /// Codes a stream with these buffers, and takes the coder's memory before the first read.
@@ -264,7 +231,7 @@ pub fn code<H: Shelf, K: Sink>(
     ensures reached { AnswerRoom code_kind (K.room sink.old) (K.written sink.new) result }
 {
     let slots = slots(plan.mode(), plan.guard());
-    let Ok(mut frame) = zeros(alloc, PACKET * slots as usize) else {
+    let Ok(mut frame) = zeros(alloc, BROADCAST_BYTES * slots as usize) else {
         return Err(CodeFault::NoMemory);
     };
     let Ok(mut cells) = zeros(alloc, SYMBOLS * symbol_size(plan.mode())) else {

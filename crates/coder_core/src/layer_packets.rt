@@ -5,9 +5,9 @@ ghost use Rattle.ts_packet.specs.Packets.{piece, sync_byte};
 ghost use Rattle.coder_core.specs.FrameChecks.{bad_sync_slot, layer_count};
 ghost use Rattle.coder_core.specs.InputFrames.{packet_in};
 
-use crate::check::{PACKET, names, slots_of};
-use isdbt_base::Layer;
-use ts_packet::Packet;
+use crate::check::{names, slots_of};
+use isdbt_base::{BROADCAST_BYTES, Layer};
+use ts_packet::{PACKET_BYTES, Packet};
 
 /// The packet in a slot of a frame.
 fn packet_of(frame: &[u8], slot: u32) -> Packet
@@ -15,8 +15,8 @@ fn packet_of(frame: &[u8], slot: u32) -> Packet
     requires sync { slice_index (piece 204 frame.now slot) 0 ≡ sync_byte }
     ensures { result ≡ take 188 (piece 204 frame.now slot) }
 {
-    let start = PACKET * slot as usize;
-    match Packet::read(&frame[start..start + 188]) {
+    let start = BROADCAST_BYTES * slot as usize;
+    match Packet::read(&frame[start..start + PACKET_BYTES]) {
         Ok(packet) => packet,
         Err(_) => Packet::null(),
     }

@@ -9,7 +9,7 @@ ghost use Rattle.coder_core.specs.UsedLayers.{IsCoderOf, CoderStandsFor, HasPack
 
 use crate::layer_packets::gather;
 use cell_map::Cell;
-use isdbt_base::{Layer, LayerSetting, Mode, NoMemory};
+use isdbt_base::{Layer, LayerSetting, Mode, NoMemory, cells_of, packets_of};
 use layer_chain::LayerCoder;
 use std::alloc::Global;
 use ts_packet::Packet;
@@ -31,14 +31,14 @@ pub struct LayerPart {
 }
 
 impl LayerPart {
-    ghost use Rattle.std.specs.Prelude.{◌≡◌, ℕ, List, ◌+◌, ◌<◌, ◌≤◌, ◌^◌, None, IfOk, length};
+    ghost use Rattle.std.specs.Prelude.{◌≡◌, ℕ, ◌+◌, ◌<◌, ◌≤◌, ◌^◌, None, IfOk, length};
     ghost use Rattle.isdbt_base.specs.declared.kinds.Layer.{Layer as AnyLayer};
     ghost use Rattle.isdbt_base.specs.Frames.{FramePackets};
     ghost use Rattle.coder_core.specs.FrameChecks.{bad_sync_slot, layer_count};
     ghost use Rattle.coder_core.specs.InputFrames.{packet_in};
     ghost use Rattle.coder_core.specs.LayerPart.{packets_of, cells_of, symbol_cells, PartStandsFor, HasCellsOf};
 
-    /// A coder that has seen no frame. Only memory can be wanting.
+    /// A coder that has seen no frame. Fails only if memory runs out.
     pub fn open(
         alloc: Global,
         layer: Option<LayerSetting>,
@@ -49,9 +49,9 @@ impl LayerPart {
         ensures state { IfOk result (λ p. (x : AnyLayer) (frames : FramePackets) (start : ℕ) → PartStandsFor p x frames start 0) }
     {
         let coder = open_used(alloc, &layer, mode)?;
-        let count = packet_count(&layer, mode) as usize;
+        let count = packets_of(&layer, mode) as usize;
         let packets = vec![in alloc; Packet::null(); count]?;
-        let count = 204 * cell_count(&layer, mode) as usize;
+        let count = 204 * cells_of(&layer, mode) as usize;
         let cells = vec![in alloc; Cell { i: 0, q: 0 }; count]?;
         Ok(LayerPart {
             mode,
@@ -84,29 +84,8 @@ impl LayerPart {
         ensures value { result.now ≡ symbol_cells self.now k }
         ensures size { length result.now ≡ cells_of self.now }
     {
-        let width = cell_count(&self.layer, self.mode) as usize;
+        let width = cells_of(&self.layer, self.mode) as usize;
         &self.cells[width * k..width * k + width]
-    }
-}
-
-/// Packets of a layer in a frame.
-fn packet_count(layer: &Option<LayerSetting>, mode: Mode) -> u32
-    ensures { result ≡ number_of (packets_per_frame mode) layer.now }
-{
-    match layer {
-        Some(used) => used.packets(mode),
-        None => 0,
-    }
-}
-
-/// Cells of a layer in a symbol.
-fn cell_count(layer: &Option<LayerSetting>, mode: Mode) -> u32
-    ensures value { result ≡ number_of (layer_cells mode) layer.now }
-    ensures most { result ≤ 4992 }
-{
-    match layer {
-        Some(used) => used.cells(mode),
-        None => 0,
     }
 }
 

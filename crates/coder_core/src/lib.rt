@@ -12,7 +12,6 @@ mod fault;
 mod laws;
 mod layer_packets;
 mod layer_part;
-mod reading;
 mod search;
 mod symbols;
 

@@ -6,10 +6,11 @@ ghost use Rattle.coder_core.specs.CodeRefusals.{packet_refusal};
 ghost use Rattle.edge_io.specs.FrameAnswers.{frame_refused, ReadingCause};
 ghost use Rattle.coder_core.specs.Answers.{code_kind, SearchAnswer};
 
-use crate::check::{PACKET, SYNC, bears_head};
+use crate::check::bears_head;
 use crate::fault::CodeFault;
-use crate::reading::fill_behind;
-use edge_io::{Failed, Seat, Shelf};
+use edge_io::{Failed, Seat, Shelf, ends, fill_behind};
+use isdbt_base::BROADCAST_BYTES;
+use ts_packet::SYNC;
 
 /// The packets in which the first head is looked for.
 const SEARCHED: u32 = 65_536;
@@ -22,7 +23,7 @@ fn packet_fault(packet: &[u8], count: usize, number: u32) -> Option<CodeFault>
         → result ≡ packet_refusal input number }
     ensures kind { IfSome result (λ fault. code_kind fault ≡ frame_refused) }
 {
-    if count < PACKET {
+    if count < BROADCAST_BYTES {
         Some(CodeFault::Truncated {
             seat: Seat::In,
             over: count as u32,
@@ -48,7 +49,7 @@ pub fn find_head<H: Shelf>(shelf: &mut H, packet: &mut [u8]) -> Result<Option<u3
     ensures cause { ReadingCause code_kind (H.faults shelf.old) (H.faults shelf.new) result }
 {
     for number in 0..SEARCHED {
-        let count = match fill_behind(shelf, 0, packet) {
+        let count = match fill_behind(shelf, Seat::In, 0, packet) {
             Ok(count) => count,
             Err(Failed) => return Err(CodeFault::ReadFault(Seat::In)),
         };
@@ -67,9 +68,9 @@ pub fn find_head<H: Shelf>(shelf: &mut H, packet: &mut [u8]) -> Result<Option<u3
             return Ok(Some(number));
         }
     }
-    match fill_behind(shelf, 0, &mut packet[..1]) {
-        Ok(0) => Err(CodeFault::NoHead),
-        Ok(_) => Err(CodeFault::TooLong),
+    match ends(shelf, Seat::In) {
+        Ok(true) => Err(CodeFault::NoHead),
+        Ok(false) => Err(CodeFault::TooLong),
         Err(Failed) => Err(CodeFault::ReadFault(Seat::In)),
     }
 }

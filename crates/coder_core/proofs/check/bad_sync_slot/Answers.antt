@@ -2,7 +2,7 @@ use Rattle.std.proofs.Common.{◌≡◌, ◌≢◌, ℕ, ◌*◌, ◌/◌, Bool,
 use Rattle.std.specs.Prelude.{◌==◌, not, slice_index}
 use Rattle.std.proofs.lemmas.Bool.{ne_eqb, eq-eqb}
 use Rattle.ts_packet.specs.Packets.{piece, sync_byte}
-use Rattle.coder_core.proofs.Finding.{find-none_of, find-first_of, up_to}
+use Rattle.isdbt_base.proofs.Finding.{find-none_of, find-first_of, up_to}
 use Rattle.coder_core.proofs.Slots.{first_byte}
 use Rattle.coder_core.proofs.check.bad_sync_slot.Goals as goal
 

@@ -5,7 +5,7 @@ use Rattle.std.specs.Int.{from_bool}
 use Rattle.isdbt_base.specs.declared.kinds.Layer.{Layer}
 use Rattle.bts_info.specs.Information.{layer_named}
 use Rattle.coder_core.specs.FrameChecks.{information_in, same_layer}
-use Rattle.coder_core.proofs.Finding.{counted-more}
+use Rattle.isdbt_base.proofs.Finding.{counted-more}
 use Rattle.coder_core.proofs.check.layer_count.Goals as goal
 use Rattle.coder_core.proofs.check.layer_count.Goals.{then-names, else-names}
 

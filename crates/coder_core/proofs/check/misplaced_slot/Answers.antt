@@ -3,7 +3,7 @@ use Rattle.std.specs.Prelude.{◌==◌, not, if◌then◌else◌}
 use Rattle.std.proofs.Math.Bool.{beq}
 use Rattle.bts_info.specs.Information.{has_head}
 use Rattle.coder_core.specs.FrameChecks.{information_in, is_misplaced}
-use Rattle.coder_core.proofs.Finding.{find-none_of, find-first_of, up_to}
+use Rattle.isdbt_base.proofs.Finding.{find-none_of, find-first_of, up_to}
 use Rattle.coder_core.proofs.check.misplaced_slot.Goals as goal
 
 -- two flags differ where they are not the same

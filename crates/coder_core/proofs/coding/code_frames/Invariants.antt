@@ -18,7 +18,7 @@ invariant-loop-number g l = record {
   shelf_kept : g.H.Shelf.faults l.shelf ≡ g.H.Shelf.faults l.initial.shelf;
   sink_kept : g.K.Sink.faults l.sink ≡ g.K.Sink.faults l.initial.sink;
   sink_room : g.K.Sink.room l.sink ≡ g.K.Sink.room l.initial.sink;
-  stands : (input : List ℕ) → Found input l.head (take 204 l.initial.frame) (g.H.Shelf.left l.initial.shelf seats.In) → StandsFor l.coder (input_frames l.plan input l.head) 0 l.number;
-  told : (input : List ℕ) → Found input l.head (take 204 l.initial.frame) (g.H.Shelf.left l.initial.shelf seats.In)
-      → Progress l.plan input l.limit l.head l.number l.held l.frame (g.H.Shelf.left l.shelf seats.In) (g.K.Sink.written l.initial.sink) (g.K.Sink.written l.sink);
+  stands : (input : List ℕ) → Found input l.span.head (take 204 l.initial.frame) (g.H.Shelf.left l.initial.shelf seats.In) → StandsFor l.coder (input_frames l.plan input l.span.head) 0 l.number;
+  told : (input : List ℕ) → Found input l.span.head (take 204 l.initial.frame) (g.H.Shelf.left l.initial.shelf seats.In)
+      → Progress l.plan input l.span.limit l.span.head l.number l.held l.frame (g.H.Shelf.left l.shelf seats.In) (g.K.Sink.written l.initial.sink) (g.K.Sink.written l.sink);
 }

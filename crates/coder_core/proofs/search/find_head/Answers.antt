@@ -1,6 +1,6 @@
-use Rattle.std.proofs.Common.{◌≡◌, ℕ, ◌-◌, ◌*◌, ◌<◌, ◌∙◌, Some, Option, length, refl, sym, ap, subst, arith, length-drop, drop-drop}
-use Rattle.std.proofs.lemmas.List.{length-take-le}
+use Rattle.std.proofs.Common.{◌≡◌, ℕ, Bool, true, false, List, Ok, ◌+◌, ◌*◌, ◌<◌, ◌∙◌, Some, Option, [], ◌∷◌, length, drop, refl, sym, ap, subst, arith, length-drop, drop-drop}
 use Rattle.edge_io.specs.declared.shelf.Seat.TheVariants as seats
+use Rattle.edge_io.specs.Reading.{EndsAnswer}
 use Rattle.edge_io.proofs.FrameAnswers.{refused_reading}
 use Rattle.coder_core.specs.Answers.{code_kind}
 use Rattle.coder_core.proofs.Searching.{begin, Came, came, nothing_first, nothing_more, refused, refused_far, next, found, read_stopped, search_refused, packet_answer}
@@ -78,31 +78,33 @@ loop-number-preserved g c = record {
       next input c.loop-number.number c.in-Ok.count c.fill_behind.new.buf _ _ size so_far now (sym why) (sym c.bears_head.ensures ∙ c.if-bears_head.false));
 }
 
-pub returns-in-Ok-eq0-clause-answer : goal.returns-in-Ok-eq0-clause-answer
-returns-in-Ok-eq0-clause-answer g c = λ input told.
+pub returns-in-Ok-true-clause-answer : goal.returns-in-Ok-true-clause-answer
+returns-in-Ok-true-clause-answer g c = λ input told.
     let so_far = c.loop-number.invariant.told input told in
-    let filled = c.in-Ok-eq0.ensures.answer _ so_far.left_is in
-    let one : length c.fill_behind-2.new.buf ≡ 1 = c.fill_behind-2.auto.buf ∙ length-take-le 1 c.loop-number.packet (omega (arith, c.loop-number.auto.packet, c.requires.size)) in
+    let P : Bool → Type 0 = λ b. EndsAnswer (drop (204 * c.loop-number.number) input) (g.H.Shelf.left c.ends.new.shelf seats.In) (Ok b) in
+    let ended : P true = subst P c.in-Ok-true.field-0-test (c.in-Ok-true.ensures.answer _ so_far.left_is) in
     let last : c.loop-number.number ≡ 65536 = omega (arith, c.loop-number-test.false, c.loop-number.auto.number-end) in
     let rest = length-drop (204 * c.loop-number.number) input in
-    let counted = filled.count in
-    let why = nothing_more input c.loop-number.number _ (omega (arith, last)) (omega (arith, counted, one, rest, c.in-Ok-eq0.field-0-test)) so_far in
-    search_refused input c.loop-number.number (c.in-Ok-eq0.field-0 - 0) _ _ _ so_far (omega (arith, c.in-Ok-eq0.field-0-test)) (omega (arith, last, c.in-Ok-eq0.field-0-test)) (filled.left_is ∙ ap Some (drop-drop (c.in-Ok-eq0.field-0 - 0) (204 * c.loop-number.number) input)) why
+    let none : length (drop (204 * c.loop-number.number) input) ≡ 0 = ap length ended.0 in
+    let why = nothing_more input c.loop-number.number _ (omega (arith, last)) (omega (arith, none, rest)) so_far in
+    search_refused input c.loop-number.number 0 _ _ _ so_far (omega arith) (omega (arith, last)) (ended.1 ∙ ap Some (sym ended.0) ∙ ap (λ m. Some (drop m input)) (let e : 204 * c.loop-number.number ≡ 204 * c.loop-number.number + 0 = omega arith in e)) why
 
-pub returns-in-Ok-fill_behind-clause-answer : goal.returns-in-Ok-fill_behind-clause-answer
-returns-in-Ok-fill_behind-clause-answer g c = λ input told.
+pub returns-in-Ok-false-clause-answer : goal.returns-in-Ok-false-clause-answer
+returns-in-Ok-false-clause-answer g c = λ input told.
     let so_far = c.loop-number.invariant.told input told in
-    let filled = c.in-Ok-fill_behind.ensures.answer _ so_far.left_is in
-    let one : length c.fill_behind-2.new.buf ≡ 1 = c.fill_behind-2.auto.buf ∙ length-take-le 1 c.loop-number.packet (omega (arith, c.loop-number.auto.packet, c.requires.size)) in
+    let P : Bool → Type 0 = λ b. EndsAnswer (drop (204 * c.loop-number.number) input) (g.H.Shelf.left c.ends.new.shelf seats.In) (Ok b) in
+    let more : P false = subst P c.in-Ok-false.field-0-test (c.in-Ok-false.ensures.answer _ so_far.left_is) in
+    let some = more.0 in
     let last : c.loop-number.number ≡ 65536 = omega (arith, c.loop-number-test.false, c.loop-number.auto.number-end) in
     let rest = length-drop (204 * c.loop-number.number) input in
-    let counted = filled.count in
-    let why = refused_far input c.loop-number.number _ last (omega (arith, counted, one, rest, c.in-Ok-fill_behind.field-0-test)) so_far in
-    search_refused input c.loop-number.number (c.in-Ok-fill_behind.field-0 - 0) _ _ _ so_far (omega (arith, counted, one)) (omega (arith, counted, one, last)) (filled.left_is ∙ ap Some (drop-drop (c.in-Ok-fill_behind.field-0 - 0) (204 * c.loop-number.number) input)) why
+    let why = refused_far input c.loop-number.number _ last (omega (arith, some, rest)) so_far in
+    search_refused input c.loop-number.number 1 _ _ _ so_far (omega arith) (omega (arith, last)) (more.1 ∙ ap Some (drop-drop 1 (204 * c.loop-number.number) input)) why
 
-pub returns-in-Err-fill_behind-clause-answer : goal.returns-in-Err-fill_behind-clause-answer
-returns-in-Err-fill_behind-clause-answer g c = λ input told.
+pub returns-in-Err-ends-clause-answer : goal.returns-in-Err-ends-clause-answer
+returns-in-Err-ends-clause-answer g c = λ input told.
     let so_far = c.loop-number.invariant.told input told in
-    let one : length c.fill_behind-2.new.buf ≡ 1 = c.fill_behind-2.auto.buf ∙ length-take-le 1 c.loop-number.packet (omega (arith, c.loop-number.auto.packet, c.requires.size)) in
     let last : c.loop-number.number ≡ 65536 = omega (arith, c.loop-number-test.false, c.loop-number.auto.number-end) in
-    read_stopped input c.loop-number.number c.fill_behind-2.new.buf _ _ (omega (arith, one)) (omega (arith, one, last)) so_far (c.in-Err-fill_behind.ensures.answer _ so_far.left_is)
+    let byte : List ℕ = 0 ∷ [] in
+    let one : length byte ≡ 1 = refl in
+    read_stopped input c.loop-number.number byte _ _ (omega (arith, one)) (omega (arith, one, last)) so_far
+    (record { taken = 0; below = omega (arith, one); within = omega arith; left_is = c.in-Err-ends.ensures.answer _ so_far.left_is })

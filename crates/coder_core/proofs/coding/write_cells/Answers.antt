@@ -1,6 +1,6 @@
 use Rattle.std.proofs.Common.{◌≡◌, ℕ, ◌+◌, arith, subst}
 use Rattle.coder_core.specs.Coder.{mode_of, setting_of, IsFrameOf}
-use Rattle.coder_core.proofs.coding.put_frame.Goals as goal
+use Rattle.coder_core.proofs.coding.write_cells.Goals as goal
 
 pub returns-clause-state : goal.returns-clause-state
 returns-clause-state g c = λ frames stands is.
