@@ -21,7 +21,7 @@ use Rattle.seg_receiver.specs.declared.fault.ReceiveFault.TheVariants.{BadTmcc, 
 use Rattle.seg_receiver.specs.declared.receiver.Receiver.{Receiver}
 use Rattle.seg_receiver.specs.CellStream.{View, first_version}
 use Rattle.seg_receiver.specs.Received.{countdown_read, epoch_start, setting_packet, word_packet, received_packets, tag_read, word_frame, received_frame}
-use Rattle.seg_receiver.specs.ReceiveRefusals.{expected, is_had, behind_refusal, part_refusal, word_refusal}
+use Rattle.seg_receiver.specs.ReceiveRefusals.{expected, is_expected, behind_refusal, part_refusal, word_refusal}
 use Rattle.seg_receiver.specs.ReceiveAnswers.{given_frame, receive_command}
 use Rattle.seg_receiver.specs.Receiver.{setting_of, StandsFor}
 use Rattle.seg_receiver.specs.EpochAnswers.{epoch_frame, Progress, Taken, AtEpoch, InEpoch}
@@ -29,11 +29,11 @@ use Rattle.seg_receiver.proofs.SameSettings.{same-equal}
 use Rattle.seg_receiver.proofs.ReceiveProgress.{begin, next}
 
 -- a receiver stands for the epoch that begins at a frame, up to frame f
-pub record Going (r : Receiver) (v : View) (partial : Bool) (stream : List ℕ) (limit start f : ℕ) (said : TmccFields × Bool) (left before now : Option (List ℕ)) : Type 0 where
-  pub setting : setting_of r ≡ said.0.now
+pub record Going (r : Receiver) (v : View) (partial : Bool) (stream : List ℕ) (limit start f : ℕ) (word : TmccFields × Bool) (left before now : Option (List ℕ)) : Type 0 where
+  pub setting : setting_of r ≡ word.0.now
   pub stands : StandsFor r v.cell start (f - start)
   pub from : start < f
-  pub so_far : InEpoch v partial stream limit start f said left before now
+  pub so_far : InEpoch v partial stream limit start f word left before now
 
 -- ---- settings
 
@@ -47,12 +47,12 @@ had-so false true x y is = refl
 had-so false false x y is = absurd (cc)
 
 -- behind a frame whose countdown isn't 0 the setting stays
-pub setting-stays : (f : ℕ) (partial : Bool) (last said : TmccFields × Bool) → IsAccepted last.0.now → IsAccepted said.0.now → word_refusal f partial (Some last) (Ok said) ≡ None → (last.0.countdown ≡ 0 → ⊥) → last.0.now ≡ said.0.now
-setting-stays f partial last said h k fine other =
-    let behind : behind_refusal f (Some last) said ≡ None = first_none (behind_refusal f (Some last) said) (part_refusal f partial said.0.now) fine in
-    let had : is_had (expected last.0) said.0.now ≡ true = had-so (from_bool last.1 == from_bool said.1) (is_had (expected last.0) said.0.now) (BadTmcc f words.Sync) (Unannounced f) behind in
+pub setting-stays : (f : ℕ) (partial : Bool) (last word : TmccFields × Bool) → IsAccepted last.0.now → IsAccepted word.0.now → word_refusal f partial (Some last) (Ok word) ≡ None → (last.0.countdown ≡ 0 → ⊥) → last.0.now ≡ word.0.now
+setting-stays f partial last word h k fine other =
+    let behind : behind_refusal f (Some last) word ≡ None = first_none (behind_refusal f (Some last) word) (part_refusal f partial word.0.now) fine in
+    let had : is_expected (expected last.0) word.0.now ≡ true = had-so (from_bool last.1 == from_bool word.1) (is_expected (expected last.0) word.0.now) (BadTmcc f words.Sync) (Unannounced f) behind in
     let due : expected last.0 ≡ Some last.0.now = rw (ne_eqb last.0.countdown 0 other) refl in
-    same-equal last.0.now said.0.now h k (sym (ap (λ o. is_had o said.0.now) due) ∙ had)
+    same-equal last.0.now word.0.now h k (sym (ap (λ o. is_expected o word.0.now) due) ∙ had)
 
 -- before the first frame
 pub at_first : (mode : Mode) (guard : Guard) (partial : Bool) (stream : List ℕ) (limit : ℕ) (left before : Option (List ℕ)) → left ≡ Some stream → AtEpoch (first_version mode guard stream) partial stream limit 0 None left before before
@@ -62,34 +62,34 @@ at_first mode guard partial stream limit left before told = record { so_far = be
 -- ---- what a frame gives out
 
 module _ (v : View) where
-  packet-is : (f start : ℕ) (said : TmccFields × Bool) (x : _) (j : ℕ) → read (v.word f) ≡ Ok said → epoch_start v.word f ≡ start → received_packets v f x j ≡ setting_packet (v.mode f) v.cell start f said.0.now x j (layer_of said.0.now x)
+  packet-is : (f start : ℕ) (word : TmccFields × Bool) (x : _) (j : ℕ) → read (v.word f) ≡ Ok word → epoch_start v.word f ≡ start → received_packets v f x j ≡ setting_packet (v.mode f) v.cell start f word.0.now x j (layer_of word.0.now x)
   unfolding received_packets
-  packet-is f start said x j is begun =
+  packet-is f start word x j is begun =
       ap (word_packet (v.mode f) v.cell (epoch_start v.word f) f x j) is
-      ∙ ap (λ u. setting_packet (v.mode f) v.cell u f said.0.now x j (layer_of said.0.now x)) begun
+      ∙ ap (λ u. setting_packet (v.mode f) v.cell u f word.0.now x j (layer_of word.0.now x)) begun
 
-  frame-is : (f start h : ℕ) (said : TmccFields × Bool) (first : Bool) → read (v.word f) ≡ Ok said → epoch_start v.word f ≡ start → start + h ≡ f → (start == f) ≡ first
-      → received_frame v f ≡ epoch_frame (v.mode f) (v.guard f) said.0.now v.cell start h said first
+  frame-is : (f start h : ℕ) (word : TmccFields × Bool) (first : Bool) → read (v.word f) ≡ Ok word → epoch_start v.word f ≡ start → start + h ≡ f → (start == f) ≡ first
+      → received_frame v f ≡ epoch_frame (v.mode f) (v.guard f) word.0.now v.cell start h word first
   unfolding received_frame
-  frame-is f start h said first is begun place same =
+  frame-is f start h word first is begun place same =
       let mode = v.mode f in
       let guard = v.guard f in
       let packets = received_packets v f in
-      let due = λ (x : _) (j : ℕ). setting_packet mode v.cell start (start + h) said.0.now x j (layer_of said.0.now x) in
+      let due = λ (x : _) (j : ℕ). setting_packet mode v.cell start (start + h) word.0.now x j (layer_of word.0.now x) in
       ap (word_frame mode guard (epoch_start v.word f) f packets) is
-      ∙ ap (λ u. ordered_frame mode guard said.0.now (tag_read said u f) packets) begun
-      ∙ ordered_frame-same mode guard said.0.now (tag_read said start f) packets due
-      (λ m inside. packet-is f start said m.layer m.index is begun ∙ ap (λ g. setting_packet mode v.cell start g said.0.now m.layer m.index (layer_of said.0.now m.layer)) (sym place))
-      ∙ ap (λ b. ordered_frame mode guard said.0.now (record { odd = said.1; first = b; start_up = said.0.start_up; countdown = said.0.countdown }) due) same
+      ∙ ap (λ u. ordered_frame mode guard word.0.now (tag_read word u f) packets) begun
+      ∙ ordered_frame-same mode guard word.0.now (tag_read word start f) packets due
+      (λ m inside. packet-is f start word m.layer m.index is begun ∙ ap (λ g. setting_packet mode v.cell start g word.0.now m.layer m.index (layer_of word.0.now m.layer)) (sym place))
+      ∙ ap (λ b. ordered_frame mode guard word.0.now (record { odd = word.1; first = b; start_up = word.0.start_up; countdown = word.0.countdown }) due) same
 
-  pub is-given : (f start h : ℕ) (said : TmccFields × Bool) (first : Bool) (m : Mode) (g : Guard) (s : Parameters) → m ≡ v.mode f → g ≡ v.guard f → s ≡ said.0.now
-      → read (v.word f) ≡ Ok said → epoch_start v.word f ≡ start → start + h ≡ f → (start == f) ≡ first
-      → epoch_frame m g s v.cell start h said first ≡ given_frame v false f
-  is-given f start h said first m g s mode_is guard_is setting_is is begun place same =
-      ap (λ m. epoch_frame m g s v.cell start h said first) mode_is
-      ∙ ap (λ g. epoch_frame (v.mode f) g s v.cell start h said first) guard_is
-      ∙ ap (λ s. epoch_frame (v.mode f) (v.guard f) s v.cell start h said first) setting_is
-      ∙ sym (frame-is f start h said first is begun place same)
+  pub is-given : (f start h : ℕ) (word : TmccFields × Bool) (first : Bool) (m : Mode) (g : Guard) (s : Parameters) → m ≡ v.mode f → g ≡ v.guard f → s ≡ word.0.now
+      → read (v.word f) ≡ Ok word → epoch_start v.word f ≡ start → start + h ≡ f → (start == f) ≡ first
+      → epoch_frame m g s v.cell start h word first ≡ given_frame v false f
+  is-given f start h word first m g s mode_is guard_is setting_is is begun place same =
+      ap (λ m. epoch_frame m g s v.cell start h word first) mode_is
+      ∙ ap (λ g. epoch_frame (v.mode f) g s v.cell start h word first) guard_is
+      ∙ ap (λ s. epoch_frame (v.mode f) (v.guard f) s v.cell start h word first) setting_is
+      ∙ sym (frame-is f start h word first is begun place same)
 
 module _ (v : View) (partial : Bool) (stream : List ℕ) (limit : ℕ) where
   -- ---- where epochs begin
@@ -98,65 +98,65 @@ module _ (v : View) (partial : Bool) (stream : List ℕ) (limit : ℕ) where
   pub progress-at_limit : (f : ℕ) (last : Option (TmccFields × Bool)) (left before now : Option (List ℕ)) → f ≡ limit → AtEpoch v partial stream limit f last left before now → Progress v partial stream limit limit last left before now
   progress-at_limit f last left before now is at = subst (λ n. Progress v partial stream limit n last left before now) is at.so_far
 
-  begun-suc : (last : ℕ) (said : TmccFields × Bool) → read (v.word last) ≡ Ok said → epoch_start v.word (suc last) ≡ (if said.0.countdown == 0 then suc last else epoch_start v.word last)
+  begun-suc : (last : ℕ) (word : TmccFields × Bool) → read (v.word last) ≡ Ok word → epoch_start v.word (suc last) ≡ (if word.0.countdown == 0 then suc last else epoch_start v.word last)
   unfolding epoch_start
-  begun-suc last said is = ap (λ r. if countdown_read r == 0 then suc last else epoch_start v.word last) is
+  begun-suc last word is = ap (λ r. if countdown_read r == 0 then suc last else epoch_start v.word last) is
 
-  pub begun-in : (start f : ℕ) (said : TmccFields × Bool) (left before now : Option (List ℕ)) → InEpoch v partial stream limit start f said left before now → (said.0.countdown ≡ 0 → ⊥) → epoch_start v.word f ≡ start
-  begun-in start f said left before now so_far other =
-      ap (epoch_start v.word) (sym so_far.next) ∙ begun-suc so_far.last said so_far.said_is
-      ∙ rw (ne_eqb said.0.countdown 0 other) so_far.begun
+  pub begun-in : (start f : ℕ) (word : TmccFields × Bool) (left before now : Option (List ℕ)) → InEpoch v partial stream limit start f word left before now → (word.0.countdown ≡ 0 → ⊥) → epoch_start v.word f ≡ start
+  begun-in start f word left before now so_far other =
+      ap (epoch_start v.word) (sym so_far.next) ∙ begun-suc so_far.last word so_far.word_is
+      ∙ rw (ne_eqb word.0.countdown 0 other) so_far.begun
 
-  begun-next : (start f : ℕ) (said : TmccFields × Bool) (left before now : Option (List ℕ)) → InEpoch v partial stream limit start f said left before now → said.0.countdown ≡ 0 → epoch_start v.word f ≡ f
-  begun-next start f said left before now so_far none =
-      ap (epoch_start v.word) (sym so_far.next) ∙ begun-suc so_far.last said so_far.said_is
-      ∙ rw (eq-eqb said.0.countdown 0 none) so_far.next
+  begun-next : (start f : ℕ) (word : TmccFields × Bool) (left before now : Option (List ℕ)) → InEpoch v partial stream limit start f word left before now → word.0.countdown ≡ 0 → epoch_start v.word f ≡ f
+  begun-next start f word left before now so_far none =
+      ap (epoch_start v.word) (sym so_far.next) ∙ begun-suc so_far.last word so_far.word_is
+      ∙ rw (eq-eqb word.0.countdown 0 none) so_far.next
 
   -- a frame with countdown 0 ends its epoch
-  pub ends-epoch : (start f : ℕ) (said : TmccFields × Bool) (left before now : Option (List ℕ)) → InEpoch v partial stream limit start f said left before now → said.0.countdown ≡ 0 → AtEpoch v partial stream limit f (Some said) left before now
-  ends-epoch start f said left before now so_far none = record { so_far = so_far.so_far; begun = λ less. begun-next start f said left before now so_far none }
+  pub ends-epoch : (start f : ℕ) (word : TmccFields × Bool) (left before now : Option (List ℕ)) → InEpoch v partial stream limit start f word left before now → word.0.countdown ≡ 0 → AtEpoch v partial stream limit f (Some word) left before now
+  ends-epoch start f word left before now so_far none = record { so_far = so_far.so_far; begun = λ less. begun-next start f word left before now so_far none }
 
   -- so does the limit
-  pub ends-at_limit : (start f : ℕ) (said : TmccFields × Bool) (left before now : Option (List ℕ)) → f ≡ limit → InEpoch v partial stream limit start f said left before now → AtEpoch v partial stream limit limit (Some said) left before now
-  ends-at_limit start f said left before now is so_far = record {
-    so_far = subst (λ n. Progress v partial stream limit n (Some said) left before now) is so_far.so_far;
+  pub ends-at_limit : (start f : ℕ) (word : TmccFields × Bool) (left before now : Option (List ℕ)) → f ≡ limit → InEpoch v partial stream limit start f word left before now → AtEpoch v partial stream limit limit (Some word) left before now
+  ends-at_limit start f word left before now is so_far = record {
+    so_far = subst (λ n. Progress v partial stream limit n (Some word) left before now) is so_far.so_far;
     begun = λ less. absurd (omega (arith, less));
   }
 
   -- ---- a frame more
 
-  pub first_in : (f : ℕ) (last : Option (TmccFields × Bool)) (said : TmccFields × Bool) (frame : List ℕ) (known left before mid after : Option (List ℕ)) → f < limit → AtEpoch v partial stream limit f last known before mid
-      → Taken v partial stream limit f last said frame left → after ≡ append_known mid (given_frame v partial f) → InEpoch v partial stream limit f (f + 1) said left before after
-  first_in f last said frame known left before mid after less at taken wrote = record {
-    so_far = next v partial stream limit f last said frame known left before mid after at.so_far taken wrote;
+  pub first_in : (f : ℕ) (last : Option (TmccFields × Bool)) (word : TmccFields × Bool) (frame : List ℕ) (known left before mid after : Option (List ℕ)) → f < limit → AtEpoch v partial stream limit f last known before mid
+      → Taken v partial stream limit f last word frame left → after ≡ append_known mid (given_frame v partial f) → InEpoch v partial stream limit f (f + 1) word left before after
+  first_in f last word frame known left before mid after less at taken wrote = record {
+    so_far = next v partial stream limit f last word frame known left before mid after at.so_far taken wrote;
     last = f;
     next = omega arith;
-    said_is = taken.said_is;
+    word_is = taken.word_is;
     begun = at.begun less;
   }
 
-  pub next_in : (start f : ℕ) (last said : TmccFields × Bool) (frame : List ℕ) (known left before mid after : Option (List ℕ)) → InEpoch v partial stream limit start f last known before mid → (last.0.countdown ≡ 0 → ⊥)
-      → Taken v partial stream limit f (Some last) said frame left → after ≡ append_known mid (given_frame v partial f) → InEpoch v partial stream limit start (f + 1) said left before after
-  next_in start f last said frame known left before mid after so_far other taken wrote = record {
-    so_far = next v partial stream limit f (Some last) said frame known left before mid after so_far.so_far taken wrote;
+  pub next_in : (start f : ℕ) (last word : TmccFields × Bool) (frame : List ℕ) (known left before mid after : Option (List ℕ)) → InEpoch v partial stream limit start f last known before mid → (last.0.countdown ≡ 0 → ⊥)
+      → Taken v partial stream limit f (Some last) word frame left → after ≡ append_known mid (given_frame v partial f) → InEpoch v partial stream limit start (f + 1) word left before after
+  next_in start f last word frame known left before mid after so_far other taken wrote = record {
+    so_far = next v partial stream limit f (Some last) word frame known left before mid after so_far.so_far taken wrote;
     last = f;
     next = omega arith;
-    said_is = taken.said_is;
+    word_is = taken.word_is;
     begun = begun-in start f last known before mid so_far other;
   }
 
   -- the setting of the next frame in an epoch
-  pub next_setting : (start f : ℕ) (last said : TmccFields × Bool) (frame : List ℕ) (known left before mid : Option (List ℕ)) → InEpoch v partial stream limit start f last known before mid → (last.0.countdown ≡ 0 → ⊥)
-      → Taken v partial stream limit f (Some last) said frame left → last.0.now ≡ said.0.now
-  next_setting start f last said frame known left before mid so_far other taken =
-      let fits = read-fits (v.word so_far.last) last so_far.said_is in
-      let fits' = read-fits (v.word f) said taken.said_is in
-      setting-stays f partial last said fits.now fits'.now taken.fine other
+  pub next_setting : (start f : ℕ) (last word : TmccFields × Bool) (frame : List ℕ) (known left before mid : Option (List ℕ)) → InEpoch v partial stream limit start f last known before mid → (last.0.countdown ≡ 0 → ⊥)
+      → Taken v partial stream limit f (Some last) word frame left → last.0.now ≡ word.0.now
+  next_setting start f last word frame known left before mid so_far other taken =
+      let fits = read-fits (v.word so_far.last) last so_far.word_is in
+      let fits' = read-fits (v.word f) word taken.word_is in
+      setting-stays f partial last word fits.now fits'.now taken.fine other
 
   -- there is no memory for the receiver of an epoch
-  pub wants_memory : (f : ℕ) (last : Option (TmccFields × Bool)) (said : TmccFields × Bool) (frame : List ℕ) (known left before now : Option (List ℕ)) → f < limit → AtEpoch v partial stream limit f last known before now
-      → Taken v partial stream limit f last said frame left → WantsMemory (receive_command v partial stream limit).frames (Took (receive_command v partial stream limit) left) before now
-  wants_memory f last said frame known left before now less at taken = record {
+  pub wants_memory : (f : ℕ) (last : Option (TmccFields × Bool)) (word : TmccFields × Bool) (frame : List ℕ) (known left before now : Option (List ℕ)) → f < limit → AtEpoch v partial stream limit f last known before now
+      → Taken v partial stream limit f last word frame left → WantsMemory (receive_command v partial stream limit).frames (Took (receive_command v partial stream limit) left) before now
+  wants_memory f last word frame known left before now less at taken = record {
     frame = f;
     opens = eq-eqb (epoch_start v.word f) f (at.begun less);
     passed = taken.passed;

@@ -20,7 +20,7 @@ use Rattle.frame_order.proofs.FrameBytes.{HasWholePackets, length-ordered_frame}
 use Rattle.coder_core.specs.InputFrames.{bears_head, first_head, slots_at, packets_before, frame_start, frame_at, packet_in, input_frames}
 use Rattle.coder_core.specs.SentCells.{frame_cells}
 use Rattle.coder_core.specs.CodeRefusals.{frames_from, coded_frame}
-use Rattle.coder_core.proofs.Finding.{find-first_of}
+use Rattle.isdbt_base.proofs.Finding.{find-first_of}
 use Rattle.coder_core.proofs.PlanEpochs.{setting_accepted, at_countdown-le}
 use Rattle.coder_core.proofs.StablePlan.{frame_cells-same}
 use Rattle.remux_core.specs.Multiplex.{broadcast, frame_tag}

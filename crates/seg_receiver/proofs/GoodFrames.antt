@@ -26,7 +26,7 @@ use Rattle.frame_order.proofs.FrameBytes.{HasWholePackets, length-ordered_frame}
 use Rattle.coder_core.specs.declared.fault.CodeFault.{CodeFault}
 use Rattle.coder_core.specs.declared.fault.CodeFault.TheVariants.{WrongCount}
 use Rattle.coder_core.specs.FrameChecks.{information_in, bad_sync_slot, is_misplaced, misplaced_slot, layer_count, bad_sync, misplaced, wrong_count, refusal}
-use Rattle.coder_core.proofs.Finding.{find-none_of}
+use Rattle.isdbt_base.proofs.Finding.{find-none_of}
 use Rattle.seg_receiver.proofs.BroadcastSlots.{packet-information, length-marked, bit-most, piece-ordered_frame, layer_size, layer_slots-ordered_frame}
 
 -- the layers' packets of a frame begin with the sync byte

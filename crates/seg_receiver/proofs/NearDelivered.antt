@@ -72,10 +72,10 @@ received_packets-near v p frames count x plan packets near f j h same_mode same 
     let mode = (at_frame p f).mode in
     let s = (at_frame p f).setting in
     let start = (at_frame p f).start in
-    let said : read (v.word f) ≡ Ok (plan_info p f, f % 2 == 1) = ap read (same f (omega arith)) ∙ read-plan_word p f plan in
+    let word : read (v.word f) ≡ Ok (plan_info p f, f % 2 == 1) = ap read (same f (omega arith)) ∙ read-plan_word p f plan in
     let begun : epoch_start v.word f ≡ (at_frame p f).start = epoch_start-plan p v.word f plan (λ g l. same g (omega arith)) in
     ap (λ m. word_packet m v.cell (epoch_start v.word f) f x j (read (v.word f))) same_mode
-    ∙ ap (word_packet mode v.cell (epoch_start v.word f) f x j) said
+    ∙ ap (word_packet mode v.cell (epoch_start v.word f) f x j) word
     ∙ ap (λ u. setting_packet mode v.cell u f s x j (layer_of s x)) begun
     ∙ elim (option_cases (layer_of (at_frame p f).setting x)) [
       | inl none ↦ ap (setting_packet mode v.cell start f s x j) none ∙ sym (ap (delayed_packet p frames f x j) none)
@@ -98,11 +98,11 @@ received_frame-near v p frames count plan packets near f h =
     let got = received_packets v f in
     let due = delivered_packets p frames f in
     let same = λ (g : ℕ) (l : g ≤ f). near.words g (omega (arith, h, l)) in
-    let said : read (v.word f) ≡ Ok (plan_info p f, f % 2 == 1) = ap read (near.words f h) ∙ read-plan_word p f plan in
+    let word : read (v.word f) ≡ Ok (plan_info p f, f % 2 == 1) = ap read (near.words f h) ∙ read-plan_word p f plan in
     let begun : epoch_start v.word f ≡ (at_frame p f).start = epoch_start-plan p v.word f plan (λ g l. near.words g (omega (arith, h, l))) in
     ap (λ m. word_frame m (v.guard f) (epoch_start v.word f) f got (read (v.word f))) (near.modes f h)
     ∙ ap (λ g. word_frame mode g (epoch_start v.word f) f got (read (v.word f))) (near.guards f h)
-    ∙ ap (word_frame mode guard (epoch_start v.word f) f got) said
+    ∙ ap (word_frame mode guard (epoch_start v.word f) f got) word
     ∙ ap (λ u. ordered_frame mode guard s (tag_read (plan_info p f, f % 2 == 1) u f) got) begun
     ∙ ordered_frame-same mode guard s tag got due (λ m k. received_packets-near v p frames count m.layer plan packets (near.close m.layer) f m.index h (near.modes f h) same k)
 

@@ -13,7 +13,7 @@ use Rattle.tmcc_word.specs.Reading.{read}
 use Rattle.coder_core.specs.SentCells.{plan_word, plan_info, frame_size}
 use Rattle.coder_core.proofs.PlanWords.{read-plan_word}
 use Rattle.seg_receiver.specs.CellStream.{View, AreInRow}
-use Rattle.seg_receiver.specs.ReceiveRefusals.{receive_is_there, same_setting, expected, is_had, behind_refusal, part_refusal, word_refusal, said_before, receive_refusal}
+use Rattle.seg_receiver.specs.ReceiveRefusals.{receive_is_there, same_setting, expected, is_expected, behind_refusal, part_refusal, word_refusal, word_before, receive_refusal}
 use Rattle.seg_receiver.proofs.NextSettings.{next_setting-zero, setting-stays}
 
 -- ---- words of a plan
@@ -22,10 +22,10 @@ pub same_setting-self : (s : Parameters) → same_setting s s ≡ true
 same_setting-self s = eq-eqb (bits_number (setting_field s)) (bits_number (setting_field s)) refl
 
 -- the setting of each frame is the expected one
-is_had-plan : (p : Schedule) (f : ℕ) → IsPlan p → is_had (expected (plan_info p f)) (at_frame p (suc f)).setting ≡ true
-is_had-plan p f plan =
+is_expected-plan : (p : Schedule) (f : ℕ) → IsPlan p → is_expected (expected (plan_info p f)) (at_frame p (suc f)).setting ≡ true
+is_expected-plan p f plan =
     elim (eqb_tells (at_frame p f).countdown 0) [
-      | inl last ↦ rw (last.0) (ap (λ o. is_had o (at_frame p (suc f)).setting) (next_setting-zero p f plan last.1) ∙ same_setting-self (at_frame p (suc f)).setting)
+      | inl last ↦ rw (last.0) (ap (λ o. is_expected o (at_frame p (suc f)).setting) (next_setting-zero p f plan last.1) ∙ same_setting-self (at_frame p (suc f)).setting)
       | inr other ↦ rw other.0 (ap (λ s. same_setting s (at_frame p (suc f)).setting) (setting-stays p f plan other.1) ∙ same_setting-self (at_frame p (suc f)).setting)
     ]
 
@@ -43,17 +43,17 @@ part-fine f true s h = rw (h refl) refl
 
 -- behind the word of a frame that of the next is not refused
 behind-fine : (p : Schedule) (f : ℕ) → IsPlan p → behind_refusal (suc f) (Some (plan_info p f, f % 2 == 1)) (plan_info p (suc f), suc f % 2 == 1) ≡ None
-behind-fine p f plan = rw (odd-turns f, is_had-plan p f plan) refl
+behind-fine p f plan = rw (odd-turns f, is_expected-plan p f plan) refl
 
 words-fine : (v : View) (p : Schedule) (partial : Bool) (f : ℕ) → IsPlan p → ((g : ℕ) → g ≤ f → v.word g ≡ plan_word p g) → (partial ≡ true → (at_frame p f).setting.partial ≡ true) →
-    word_refusal f partial (said_before v f) (read (v.word f)) ≡ None
+    word_refusal f partial (word_before v f) (read (v.word f)) ≡ None
 words-fine v p partial zero plan same asked =
-    let said = ap read (same 0 (omega arith)) ∙ read-plan_word p 0 plan in
-    rw (said, part-fine 0 partial (at_frame p 0).setting asked) refl
+    let word = ap read (same 0 (omega arith)) ∙ read-plan_word p 0 plan in
+    rw (word, part-fine 0 partial (at_frame p 0).setting asked) refl
 words-fine v p partial (suc f) plan same asked =
-    let said = ap read (same (suc f) (omega arith)) ∙ read-plan_word p (suc f) plan in
+    let word = ap read (same (suc f) (omega arith)) ∙ read-plan_word p (suc f) plan in
     let before = ap read (same f (omega arith)) ∙ read-plan_word p f plan in
-    rw (said, before, behind-fine p f plan, part-fine (suc f) partial (at_frame p (suc f)).setting asked) refl
+    rw (word, before, behind-fine p f plan, part-fine (suc f) partial (at_frame p (suc f)).setting asked) refl
 
 -- ---- frames
 

@@ -51,7 +51,7 @@ module _ (v : View) (p : Schedule) (frames : FramePackets) (count : ℕ) (plan :
       let cell = segment_cells v.cell in
       let l = (at_frame p f).setting.a in
       let start = (at_frame p f).start in
-      let said : read (v.word f) ≡ Ok (plan_info p f, f % 2 == 1) = ap read (near.words f h) ∙ read-plan_word p f plan in
+      let word : read (v.word f) ≡ Ok (plan_info p f, f % 2 == 1) = ap read (near.words f h) ∙ read-plan_word p f plan in
       let begun : epoch_start v.word f ≡ (at_frame p f).start = epoch_start-plan p v.word f plan (λ g k. near.words g (omega (arith, h, k))) in
       let alike : partial_packets mode l cell start (into_epoch p f)
       ≡ (if nat_le (layer_delay mode l) (into_epoch p f) then flat_map (delivered_packets p frames f A) (range_with_len 0 (packets_per_frame mode l)) else []) =
@@ -59,7 +59,7 @@ module _ (v : View) (p : Schedule) (frames : FramePackets) (count : ℕ) (plan :
       (flat_map-same (given_out mode l (place_bits mode l (λ g k segment carrier. cell g k carrier) start 0) (into_epoch p f)) (delivered_packets p frames f A) 0 (packets_per_frame mode l)
       (λ j a k. given_out-partial f j h (omega (arith, k)))) in
       ap (λ m. word_partial m cell (epoch_start v.word f) f (read (v.word f))) (near.modes f h)
-      ∙ ap (word_partial mode cell (epoch_start v.word f) f) said
+      ∙ ap (word_partial mode cell (epoch_start v.word f) f) word
       ∙ ap (λ u. partial_packets mode l cell u (f - u)) begun
       ∙ alike
 

@@ -1,5 +1,5 @@
 -- How far the frames of a stream of cells have come.
-use Rattle.std.proofs.Common.{◌≡◌, ℕ, suc, ◌+◌, ◌-◌, ◌*◌, ◌≤◌, ◌<◌, Bool, true, false, List, [], ◌∷◌, length, take, drop, refl, ap, sym, ◌∙◌, subst, arith, inl, inr, length-drop, drop-drop}
+use Rattle.std.proofs.Common.{◌≡◌, ℕ, suc, ◌+◌, ◌-◌, ◌*◌, ◌≤◌, ◌<◌, Bool, true, false, List, [], ◌∷◌, length, take, drop, refl, ap, sym, ◌∙◌, arith, inl, inr, length-drop, drop-drop}
 use Rattle.std.specs.Prelude.{Some, None, Ok, ◌==◌, nat_lt, if◌then◌else◌}
 use Rattle.std.specs.declared.option.Option.{Option}
 use Rattle.std.proofs.Math.Nat.{mul-le-mul_right}
@@ -19,7 +19,7 @@ use Rattle.coder_core.specs.SentCells.{frame_size}
 use Rattle.seg_receiver.specs.declared.fault.ReceiveFault.{ReceiveFault}
 use Rattle.seg_receiver.specs.declared.fault.ReceiveFault.TheVariants.{Truncated, TooLong}
 use Rattle.seg_receiver.specs.CellStream.{stream_word, View, first_version}
-use Rattle.seg_receiver.specs.ReceiveRefusals.{receive_is_there, word_refusal, said_before, receive_refusal}
+use Rattle.seg_receiver.specs.ReceiveRefusals.{receive_is_there, word_refusal, word_before, receive_refusal}
 use Rattle.seg_receiver.specs.ReceiveAnswers.{given_frame, receive_command}
 use Rattle.seg_receiver.specs.FrameReading.{Came, Stopped}
 use Rattle.seg_receiver.specs.EpochAnswers.{FrameRefused, Progress, Taken}
@@ -65,7 +65,7 @@ module _ (v : View) (partial : Bool) (stream : List ℕ) (limit : ℕ) where
   cut f = if nat_lt v.size (v.starts (f + 1)) then Some (Truncated seats.In (v.size - v.starts f)) else None
 
   refusal-parts : (f : ℕ) → receive_is_there v f ≡ true → receive_refusal v partial limit f ≡
-      first_some ((if f == limit then Some TooLong else None) ∷ cut f ∷ word_refusal f partial (said_before v f) (read (v.word f)) ∷ [])
+      first_some ((if f == limit then Some TooLong else None) ∷ cut f ∷ word_refusal f partial (word_before v f) (read (v.word f)) ∷ [])
   unfolding receive_refusal cut
   refusal-parts f is = rw is refl
 
@@ -78,12 +78,12 @@ module _ (v : View) (partial : Bool) (stream : List ℕ) (limit : ℕ) where
   uncut f whole = rw (le-ltb v.size (v.starts (f + 1)) whole) refl
 
   -- why a frame that is there in full is refused, below the limit
-  refusal-whole : (f : ℕ) (last : Option (TmccFields × Bool)) → f < limit → v.starts f < v.size → v.starts (f + 1) ≤ v.size → said_before v f ≡ last
+  refusal-whole : (f : ℕ) (last : Option (TmccFields × Bool)) → f < limit → v.starts f < v.size → v.starts (f + 1) ≤ v.size → word_before v f ≡ last
       → receive_refusal v partial limit f ≡ word_refusal f partial last (read (v.word f))
-  refusal-whole f last less some whole said =
+  refusal-whole f last less some whole word =
       refusal-parts f (there f some)
       ∙ third _ _ _ (not_at_limit f limit less) (uncut f whole)
-      ∙ ap (λ o. word_refusal f partial o (read (v.word f))) said
+      ∙ ap (λ o. word_refusal f partial o (read (v.word f))) word
 
   -- why a frame that is there in part is refused, below the limit
   refusal-short : (f n : ℕ) → f < limit → v.starts f < v.size → v.size < v.starts (f + 1) → v.size - v.starts f ≡ n → receive_refusal v partial limit f ≡ Some (Truncated seats.In n)
@@ -110,22 +110,22 @@ module _ (v : View) (partial : Bool) (stream : List ℕ) (limit : ℕ) where
   }
 
   -- a frame is passed
-  said-next : (f : ℕ) (said : TmccFields × Bool) → read (v.word f) ≡ Ok said → said_before v (f + 1) ≡ Some said
-  said-next f said is = ap (said_before v) (let e : f + 1 ≡ suc f = omega arith in e) ∙ ap ok_part is
+  word-next : (f : ℕ) (word : TmccFields × Bool) → read (v.word f) ≡ Ok word → word_before v (f + 1) ≡ Some word
+  word-next f word is = ap (word_before v) (let e : f + 1 ≡ suc f = omega arith in e) ∙ ap ok_part is
 
-  pub next : (f : ℕ) (last : Option (TmccFields × Bool)) (said : TmccFields × Bool) (frame : List ℕ) (known left before mid after : Option (List ℕ)) → Progress v partial stream limit f last known before mid → Taken v partial stream limit f last said frame left
-      → after ≡ append_known mid (given_frame v partial f) → Progress v partial stream limit (f + 1) (Some said) left before after
-  next f last said frame known left before mid after so_far taken wrote = record {
+  pub next : (f : ℕ) (last : Option (TmccFields × Bool)) (word : TmccFields × Bool) (frame : List ℕ) (known left before mid after : Option (List ℕ)) → Progress v partial stream limit f last known before mid → Taken v partial stream limit f last word frame left
+      → after ≡ append_known mid (given_frame v partial f) → Progress v partial stream limit (f + 1) (Some word) left before after
+  next f last word frame known left before mid after so_far taken wrote = record {
     passed = taken.passed;
     written = wrote-more command.frames f before mid after so_far.written wrote;
-    said = said-next f said taken.said_is;
+    word = word-next f word taken.word_is;
     within = taken.within;
     left_is = taken.left_is;
   }
 
-  pub write-failed : (f n : ℕ) (last : Option (TmccFields × Bool)) (said : TmccFields × Bool) (frame : List ℕ) (known left before mid after : Option (List ℕ)) → Progress v partial stream limit f last known before mid → Taken v partial stream limit f last said frame left
+  pub write-failed : (f n : ℕ) (last : Option (TmccFields × Bool)) (word : TmccFields × Bool) (frame : List ℕ) (known left before mid after : Option (List ℕ)) → Progress v partial stream limit f last known before mid → Taken v partial stream limit f last word frame left
       → n < length (given_frame v partial f) → after ≡ append_known mid (take n (given_frame v partial f)) → WriteFailed command.frames (Took command left) before after
-  write-failed f n last said frame known left before mid after so_far taken short wrote = record {
+  write-failed f n last word frame known left before mid after so_far taken short wrote = record {
     frame = f;
     sent = n;
     passed = taken.passed;
@@ -149,7 +149,7 @@ module _ (mode : Mode) (guard : Guard) (partial : Bool) (stream : List ℕ) (lim
   begin left before told = record {
     passed = passed-none receiving.frames;
     written = wrote-none receiving.frames before;
-    said = refl;
+    word = refl;
     within = omega arith;
     left_is = told ∙ ap (λ n. Some (drop n stream)) (let e : 0 ≡ 0 * frame_size mode = omega arith in e);
   }
@@ -201,27 +201,27 @@ module _ (mode : Mode) (guard : Guard) (partial : Bool) (stream : List ℕ) (lim
       let whole = whole-there f n frame left' size full came in
       let is = whole-frame f n frame left' size full came in
       refused Plain partial stream limit f n fault last left left' before now so_far
-      (refusal-whole Plain partial stream limit f last less (some-there f whole) whole so_far.said ∙ ap (λ w. word_refusal f partial last (read w)) (sym (word-frame mode stream frame f is)) ∙ bad.1)
+      (refusal-whole Plain partial stream limit f last less (some-there f whole) whole so_far.word ∙ ap (λ w. word_refusal f partial last (read w)) (sym (word-frame mode stream frame f is)) ∙ bad.1)
       (omega (arith, counted, size)) came.left_is
 
   -- ---- a frame is passed
 
-  pub taken_frame : (f n : ℕ) (last : Option (TmccFields × Bool)) (said : TmccFields × Bool) (frame : List ℕ) (left left' before now : Option (List ℕ)) → f < limit → length frame ≡ frame_size mode → length frame ≤ n
-      → read (stream_word mode frame 0) ≡ Ok said → word_refusal f partial last (read (stream_word mode frame 0)) ≡ None
-      → Progress Plain partial stream limit f last left before now → Came frame (drop (f * frame_size mode) stream) left' n → Taken Plain partial stream limit f last said frame left'
-  taken_frame f n last said frame left left' before now less size full says fine so_far came =
+  pub taken_frame : (f n : ℕ) (last : Option (TmccFields × Bool)) (word : TmccFields × Bool) (frame : List ℕ) (left left' before now : Option (List ℕ)) → f < limit → length frame ≡ frame_size mode → length frame ≤ n
+      → read (stream_word mode frame 0) ≡ Ok word → word_refusal f partial last (read (stream_word mode frame 0)) ≡ None
+      → Progress Plain partial stream limit f last left before now → Came frame (drop (f * frame_size mode) stream) left' n → Taken Plain partial stream limit f last word frame left'
+  taken_frame f n last word frame left left' before now less size full says fine so_far came =
       let whole = whole-there f n frame left' size full came in
       let some = some-there f whole in
       let is = whole-frame f n frame left' size full came in
       let counted = came.all in
       let rest = length-drop (f * frame_size mode) stream in
-      let word = word-frame mode stream frame f is in
+      let bits = word-frame mode stream frame f is in
       let end : f * frame_size mode + n ≡ (f + 1) * frame_size mode = omega (arith, counted, rest, size, full) in
       record {
         passed = passed-more receiving.frames f so_far.passed
-            (refusal-whole Plain partial stream limit f last less some whole so_far.said ∙ ap (λ w. word_refusal f partial last (read w)) (sym word) ∙ fine)
+            (refusal-whole Plain partial stream limit f last less some whole so_far.word ∙ ap (λ w. word_refusal f partial last (read w)) (sym bits) ∙ fine)
             (there Plain partial stream limit f some);
-        said_is = ap read (sym word) ∙ says;
+        word_is = ap read (sym bits) ∙ says;
         fine = ap (word_refusal f partial last) (sym says) ∙ fine;
         frame_is = is;
         within = whole;
@@ -251,38 +251,30 @@ module _ (mode : Mode) (guard : Guard) (partial : Bool) (stream : List ℕ) (lim
 
   -- ---- the limit of frames
 
-  pub ended_at_limit : (m n : ℕ) (last : Option (TmccFields × Bool)) (byte : List ℕ) (left left' before now : Option (List ℕ)) → m ≡ limit → length byte ≡ 1 → n ≡ 0 → Progress Plain partial stream limit limit last left before now
-      → Came byte (drop (limit * frame_size mode) stream) left' n → Finished receiving m before now left'
-  ended_at_limit m n last byte left left' before now is one none so_far came =
+  pub ended_at_limit : (last : Option (TmccFields × Bool)) (left left' before now : Option (List ℕ)) → Progress Plain partial stream limit limit last left before now
+      → drop (limit * frame_size mode) stream ≡ [] → left' ≡ Some [] → Finished receiving limit before now left'
+  ended_at_limit last left left' before now so_far empty gone =
       let rest = length-drop (limit * frame_size mode) stream in
-      let counted = came.all in
-      let le : length stream ≤ limit * frame_size mode = omega (arith, counted, rest, none, one) in
-      subst (λ k. Finished receiving k before now left') (sym is)
-      (finished Plain partial stream limit limit last left left' before now so_far le (came.left_is ∙ ap Some (drop_all n (drop (limit * frame_size mode) stream) (omega (arith, rest, le)))))
+      let none : length (drop (limit * frame_size mode) stream) ≡ 0 = ap length empty in
+      finished Plain partial stream limit limit last left left' before now so_far (omega (arith, rest, none)) gone
 
-  pub too_long : (n : ℕ) (last : Option (TmccFields × Bool)) (byte : List ℕ) (left left' before now : Option (List ℕ)) → length byte ≡ 1 → 0 < n → Progress Plain partial stream limit limit last left before now
-      → Came byte (drop (limit * frame_size mode) stream) left' n → Refused receiving.frames (TookAtMost receiving left') TooLong before now
-  too_long n last byte left left' before now one some so_far came =
+  pub too_long : (last : Option (TmccFields × Bool)) (left left' before now : Option (List ℕ)) → Progress Plain partial stream limit limit last left before now
+      → 0 < length (drop (limit * frame_size mode) stream) → left' ≡ Some (drop 1 (drop (limit * frame_size mode) stream)) → Refused receiving.frames (TookAtMost receiving left') TooLong before now
+  too_long last left left' before now so_far more one =
       let rest = length-drop (limit * frame_size mode) stream in
-      let counted = came.all in
-      refused Plain partial stream limit limit n TooLong last left left' before now so_far
-      (refusal-limit Plain partial stream limit (omega (arith, rest, counted, some)))
-      (omega (arith, counted, one)) came.left_is
+      refused Plain partial stream limit limit 1 TooLong last left left' before now so_far (refusal-limit Plain partial stream limit (omega (arith, rest, more))) (omega arith) one
 
-  pub stopped_at_limit : (seat : Seat) (last : Option (TmccFields × Bool)) (byte : List ℕ) (left left' before now : Option (List ℕ)) → length byte ≡ 1 → Progress Plain partial stream limit limit last left before now
-      → Stopped byte (drop (limit * frame_size mode) stream) left' → ReadFailed receiving.frames (λ f seat. StoppedIn receiving left' f) seat before now
-  stopped_at_limit seat last byte left left' before now one so_far stop =
-      let below = stop.below in
-      let none : stop.taken ≡ 0 = omega (arith, below, one) in
-      record {
-        frame = limit;
-        passed = so_far.passed;
-        written = so_far.written;
-        account = record {
-          taken = limit * frame_size mode;
-          left_is = stop.left_is ∙ ap (λ n. Some (drop n (drop (limit * frame_size mode) stream))) none ∙ ap Some (drop-drop 0 (limit * frame_size mode) stream) ∙ ap (λ n. Some (drop n stream)) (let e : limit * frame_size mode + 0 ≡ limit * frame_size mode = omega arith in e);
-          from = omega arith;
-          below = omega arith;
-          most = omega arith;
-        };
-      }
+  pub stopped_at_limit : (seat : Seat) (last : Option (TmccFields × Bool)) (left left' before now : Option (List ℕ)) → Progress Plain partial stream limit limit last left before now
+      → left' ≡ Some (drop (limit * frame_size mode) stream) → ReadFailed receiving.frames (λ f seat. StoppedIn receiving left' f) seat before now
+  stopped_at_limit seat last left left' before now so_far same = record {
+    frame = limit;
+    passed = so_far.passed;
+    written = so_far.written;
+    account = record {
+      taken = limit * frame_size mode;
+      left_is = same;
+      from = omega arith;
+      below = omega arith;
+      most = omega arith;
+    };
+  }

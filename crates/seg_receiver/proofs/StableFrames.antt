@@ -48,11 +48,11 @@ given_out-alike mode s x l cell other start f j accepted used before same k =
 
 word_packet-same : (mode : Mode) (words other : ℕ → List Bool) (cell cells : FrameCells) (f j : ℕ) (x : Layer) (i : TmccFields × Bool) → read (words f) ≡ Ok i → read (other f) ≡ Ok i → epoch_start words f ≡ epoch_start other f →
     CellsAgreeUpTo mode f cell cells → j < number_of (packets_per_frame mode) (layer_of i.0.now x) → word_packet mode cell (epoch_start words f) f x j (read (words f)) ≡ word_packet mode cells (epoch_start other f) f x j (read (other f))
-word_packet-same mode words other cell cells f j x i said too start same k =
+word_packet-same mode words other cell cells f j x i word too start same k =
     let s = i.0.now in
     let begun = epoch_start other f in
-    let fits = read-fits (words f) i said in
-    ap (word_packet mode cell (epoch_start words f) f x j) said
+    let fits = read-fits (words f) i word in
+    ap (word_packet mode cell (epoch_start words f) f x j) word
     ∙ ap (λ u. setting_packet mode cell u f s x j (layer_of s x)) start
     ∙ elim (option_cases (layer_of i.0.now x)) [
       | inl none ↦ ap (setting_packet mode cell begun f s x j) none ∙ sym (ap (setting_packet mode cells begun f s x j) none)
@@ -66,8 +66,8 @@ word_packet-same mode words other cell cells f j x i said too start same k =
 received_packets-same : (v w : View) (f j : ℕ) (x : Layer) (i : TmccFields × Bool) → AgreeUpTo f v w → read (v.word f) ≡ Ok i → read (w.word f) ≡ Ok i → epoch_start v.word f ≡ epoch_start w.word f →
     j < number_of (packets_per_frame (v.mode f)) (layer_of i.0.now x) → received_packets v f x j ≡ received_packets w f x j
 unfolding received_packets
-received_packets-same v w f j x i alike said too start k =
-    word_packet-same (v.mode f) v.word w.word v.cell w.cell f j x i said too start alike.cells k
+received_packets-same v w f j x i alike word too start k =
+    word_packet-same (v.mode f) v.word w.word v.cell w.cell f j x i word too start alike.cells k
     ∙ ap (λ m. word_packet m w.cell (epoch_start w.word f) f x j (read (w.word f))) alike.same_mode
 
 -- views that are alike up to f give the same output frame f
@@ -84,11 +84,11 @@ received_frame-same v w f alike =
     elim (result_cases (read (v.word f))) [
       | inr refused ↦ (let too = same ∙ refused.1 in
           ap (word_frame mode guard (epoch_start v.word f) f got) refused.1 ∙ sym (ap (word_frame mode guard begun f due) too))
-      | inl said ↦ (let i = said.0 in
-          let too = same ∙ said.1 in
-          ap (word_frame mode guard (epoch_start v.word f) f got) said.1
+      | inl word ↦ (let i = word.0 in
+          let too = same ∙ word.1 in
+          ap (word_frame mode guard (epoch_start v.word f) f got) word.1
           ∙ ap (λ u. ordered_frame mode guard i.0.now (tag_read i u f) got) start
-          ∙ ordered_frame-same mode guard i.0.now (tag_read i begun f) got due (λ m k. received_packets-same v w f m.index m.layer i alike said.1 too start k)
+          ∙ ordered_frame-same mode guard i.0.now (tag_read i begun f) got due (λ m k. received_packets-same v w f m.index m.layer i alike word.1 too start k)
           ∙ sym (ap (word_frame mode guard begun f due) too))
     ]
     ∙ ap (λ m. word_frame m guard begun f due (read (w.word f))) alike.same_mode

@@ -17,15 +17,15 @@ use Rattle.seg_receiver.specs.declared.epochs.EpochEnd.{EpochEnd}
 use Rattle.seg_receiver.specs.declared.epochs.EpochEnd.TheVariants.{Input, Next}
 use Rattle.seg_receiver.specs.CellStream.{FrameCells, stream_word, View}
 use Rattle.seg_receiver.specs.Received.{epoch_start, setting_packet}
-use Rattle.seg_receiver.specs.ReceiveRefusals.{word_refusal, said_before}
+use Rattle.seg_receiver.specs.ReceiveRefusals.{word_refusal, word_before}
 use Rattle.seg_receiver.specs.ReceiveAnswers.{receive_kind, receive_command}
 
 -- ---- frames
 
 -- frame h of an epoch, whose word says this
 abbrev pub epoch_frame : Mode → Guard → Parameters → FrameCells → ℕ → ℕ → TmccFields × Bool → Bool → List ℕ
-epoch_frame mode guard s cell start h said first =
-    ordered_frame mode guard s (record { odd = said.1; first = first; start_up = said.0.start_up; countdown = said.0.countdown }) (λ x j. setting_packet mode cell start (start + h) s x j (layer_of s x))
+epoch_frame mode guard s cell start h word first =
+    ordered_frame mode guard s (record { odd = word.1; first = first; start_up = word.0.start_up; countdown = word.0.countdown }) (λ x j. setting_packet mode cell start (start + h) s x j (layer_of s x))
 
 -- why a frame is refused of which so many bytes came: some and not all, or its word is refused
 abbrev pub FrameRefused : Mode → Bool → ℕ → Option (TmccFields × Bool) → List ℕ → ℕ → ReceiveFault → Type 0
@@ -36,8 +36,8 @@ FrameRefused mode partial f before frame count fault =
 -- what a frame says of which so many bytes came
 abbrev pub FrameCheck : Mode → Bool → ℕ → Option (TmccFields × Bool) → List ℕ → ℕ → Result (Option (TmccFields × Bool)) ReceiveFault → Type 0
 FrameCheck mode partial f before frame count (Ok None) = count ≡ 0
-FrameCheck mode partial f before frame count (Ok (Some said)) =
-    (length frame ≤ count) × (read (stream_word mode frame 0) ≡ Ok said) × (word_refusal f partial before (read (stream_word mode frame 0)) ≡ None)
+FrameCheck mode partial f before frame count (Ok (Some word)) =
+    (length frame ≤ count) × (read (stream_word mode frame 0) ≡ Ok word) × (word_refusal f partial before (read (stream_word mode frame 0)) ≡ None)
 FrameCheck mode partial f before frame count (Err fault) = FrameRefused mode partial f before frame count fault
 
 -- ---- progress
@@ -46,15 +46,15 @@ FrameCheck mode partial f before frame count (Err fault) = FrameRefused mode par
 pub record Progress (v : View) (partial : Bool) (stream : List ℕ) (limit f : ℕ) (last : Option (TmccFields × Bool)) (left before now : Option (List ℕ)) : Type 0 where
   pub passed : Passed (receive_command v partial stream limit).frames f
   pub written : Wrote (receive_command v partial stream limit).frames f before now
-  pub said : said_before v f ≡ last
+  pub word : word_before v f ≡ last
   pub within : v.starts f ≤ length stream
   pub left_is : left ≡ Some (drop (v.starts f) stream)
 
 -- frame f was taken and is passed, and its word says this
-pub record Taken (v : View) (partial : Bool) (stream : List ℕ) (limit f : ℕ) (last : Option (TmccFields × Bool)) (said : TmccFields × Bool) (frame : List ℕ) (left : Option (List ℕ)) : Type 0 where
+pub record Taken (v : View) (partial : Bool) (stream : List ℕ) (limit f : ℕ) (last : Option (TmccFields × Bool)) (word : TmccFields × Bool) (frame : List ℕ) (left : Option (List ℕ)) : Type 0 where
   pub passed : Passed (receive_command v partial stream limit).frames (f + 1)
-  pub said_is : read (v.word f) ≡ Ok said
-  pub fine : word_refusal f partial last (Ok said) ≡ None
+  pub word_is : read (v.word f) ≡ Ok word
+  pub fine : word_refusal f partial last (Ok word) ≡ None
   pub frame_is : frame ≡ take (frame_size (v.mode f)) (drop (v.starts f) stream)
   pub within : v.starts (f + 1) ≤ length stream
   pub left_is : left ≡ Some (drop (v.starts (f + 1)) stream)
@@ -62,7 +62,7 @@ pub record Taken (v : View) (partial : Bool) (stream : List ℕ) (limit f : ℕ)
 -- what the next frame of a stream says: there is none, or it was taken and is passed, or it ends all
 abbrev pub TakeAnswer : View → Bool → List ℕ → ℕ → ℕ → Option (TmccFields × Bool) → List ℕ → Option (List ℕ) → Option (List ℕ) → Option (List ℕ) → Result (Option (TmccFields × Bool)) ReceiveFault → Type 0
 TakeAnswer v partial stream limit f last frame before now left (Ok None) = Finished (receive_command v partial stream limit) f before now left
-TakeAnswer v partial stream limit f last frame before now left (Ok (Some said)) = Taken v partial stream limit f last said frame left
+TakeAnswer v partial stream limit f last frame before now left (Ok (Some word)) = Taken v partial stream limit f last word frame left
 TakeAnswer v partial stream limit f last frame before now left (Err fault) = LoneAnswer receive_kind (receive_command v partial stream limit) before now left (Err fault)
 
 -- ---- epochs
@@ -73,20 +73,20 @@ pub record AtEpoch (v : View) (partial : Bool) (stream : List ℕ) (limit f : �
   pub begun : f < limit → epoch_start v.word f ≡ f
 
 -- the first f frames were written, and the last is in the epoch that begins at a frame
-pub record InEpoch (v : View) (partial : Bool) (stream : List ℕ) (limit start f : ℕ) (said : TmccFields × Bool) (left before now : Option (List ℕ)) : Type 0 where
-  pub so_far : Progress v partial stream limit f (Some said) left before now
+pub record InEpoch (v : View) (partial : Bool) (stream : List ℕ) (limit start f : ℕ) (word : TmccFields × Bool) (left before now : Option (List ℕ)) : Type 0 where
+  pub so_far : Progress v partial stream limit f (Some word) left before now
   pub last : ℕ
   pub next : suc last ≡ f
-  pub said_is : read (v.word last) ≡ Ok said
+  pub word_is : read (v.word last) ≡ Ok word
   pub begun : epoch_start v.word last ≡ start
 
 -- what an epoch says: the stream ended in it, or it ended, or the limit was reached
 abbrev pub EpochAnswer : View → Bool → List ℕ → ℕ → Option (List ℕ) → Option (List ℕ) → Option (List ℕ) → Result EpochEnd ReceiveFault → Type 0
 EpochAnswer v partial stream limit before after left (Ok (Input m)) = Finished (receive_command v partial stream limit) m before after left
-EpochAnswer v partial stream limit before after left (Ok (Next f said)) = AtEpoch v partial stream limit f (Some said) left before after
+EpochAnswer v partial stream limit before after left (Ok (Next start)) = AtEpoch v partial stream limit start.frame start.before left before after
 EpochAnswer v partial stream limit before after left (Err fault) = LoneAnswer receive_kind (receive_command v partial stream limit) before after left (Err fault)
 
 -- an epoch that goes on behind a frame ends past it, at the limit at the latest
 abbrev pub EndsPast : ℕ → ℕ → Result EpochEnd ReceiveFault → Type 0
-EndsPast f limit (Ok (Next g said)) = (f < g) × (g ≤ limit)
+EndsPast f limit (Ok (Next start)) = (f < start.frame) × (start.frame ≤ limit)
 EndsPast f limit result = Unit {0}

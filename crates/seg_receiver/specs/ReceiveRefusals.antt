@@ -24,19 +24,19 @@ same_setting s u = bits_number (setting_field s) == bits_number (setting_field u
 
 -- the setting that a word lets expect for the frame behind it: the next one where its countdown is 0, else the present one
 abbrev pub expected : TmccFields → Option Parameters
-expected said = if said.countdown == 0 then said.next else Some said.now
+expected info = if info.countdown == 0 then info.next else Some info.now
 
 -- whether a setting is the expected one, if there is one
-abbrev pub is_had : Option Parameters → Parameters → Bool
-is_had None s = false
-is_had (Some u) s = same_setting u s
+abbrev pub is_expected : Option Parameters → Parameters → Bool
+is_expected None s = false
+is_expected (Some u) s = same_setting u s
 
 -- why a word that is read is refused behind the word of the frame before, if that is read too: both are odd or neither, or the setting isn't the expected one
 abbrev pub behind_refusal : ℕ → Option (TmccFields × Bool) → TmccFields × Bool → Option ReceiveFault
-behind_refusal f None said = None
-behind_refusal f (Some before) said =
-    if from_bool before.1 == from_bool said.1 then Some (BadTmcc f words.Sync)
-    else if is_had (expected before.0) said.0.now then None else Some (Unannounced f)
+behind_refusal f None word = None
+behind_refusal f (Some before) word =
+    if from_bool before.1 == from_bool word.1 then Some (BadTmcc f words.Sync)
+    else if is_expected (expected before.0) word.0.now then None else Some (Unannounced f)
 
 -- why a word that is read is refused with partial reception: its flag is clear
 abbrev pub part_refusal : ℕ → Bool → Parameters → Option ReceiveFault
@@ -45,12 +45,12 @@ part_refusal f partial s = if partial && not s.partial then Some (NotPartial f) 
 -- why the word of frame f is refused: it isn't read, or it is refused behind the word before it, or with partial reception
 abbrev pub word_refusal : ℕ → Bool → Option (TmccFields × Bool) → Result (TmccFields × Bool) TmccFault → Option ReceiveFault
 word_refusal f partial before (Err reason) = Some (BadTmcc f reason)
-word_refusal f partial before (Ok said) = first_some (behind_refusal f before said ∷ part_refusal f partial said.0.now ∷ [])
+word_refusal f partial before (Ok word) = first_some (behind_refusal f before word ∷ part_refusal f partial word.0.now ∷ [])
 
 -- what the word of the frame before frame f says, if there is such a frame and its word is read
-abbrev pub said_before : View → ℕ → Option (TmccFields × Bool)
-said_before v zero = None
-said_before v (suc f) = ok_part (read (v.word f))
+abbrev pub word_before : View → ℕ → Option (TmccFields × Bool)
+word_before v zero = None
+word_before v (suc f) = ok_part (read (v.word f))
 
 -- why frame f is refused, in full or with partial reception, with a limit on frames: it stands at the limit, it is unfinished, or its word is refused
 unfoldable pub receive_refusal : View → Bool → ℕ → ℕ → Option ReceiveFault
@@ -58,5 +58,5 @@ receive_refusal v partial limit f =
     if receive_is_there v f
     then first_some ((if f == limit then Some TooLong else None)
     ∷ (if nat_lt v.size (v.starts (f + 1)) then Some (Truncated seats.In (v.size - v.starts f)) else None)
-    ∷ word_refusal f partial (said_before v f) (read (v.word f)) ∷ [])
+    ∷ word_refusal f partial (word_before v f) (read (v.word f)) ∷ [])
     else None

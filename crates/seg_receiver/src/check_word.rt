@@ -2,17 +2,25 @@
 
 ghost use Rattle.std.specs.Prelude.{◌≡◌, Some, None, Ok, MatchResult};
 ghost use Rattle.tmcc_word.specs.Reading.{read};
-ghost use Rattle.seg_receiver.specs.ReceiveRefusals.{is_had, behind_refusal, word_refusal};
+ghost use Rattle.seg_receiver.specs.ReceiveRefusals.{same_setting, is_expected, behind_refusal, word_refusal};
 
 use crate::fault::ReceiveFault;
-use crate::same::same_setting;
 use crate::words::{check_part, expected_setting};
 use isdbt_base::Setting;
 use tmcc_word::{TmccFault, TmccInfo, read_word};
 
+/// Whether two settings are the same: a word has the same bits for both.
+fn same_setting(a: &Setting, b: &Setting) -> bool
+    ensures { result ≡ same_setting a.now b.now }
+{
+    a.acceptance_law();
+    b.acceptance_law();
+    a.is_equal(b)
+}
+
 /// Whether a setting is the expected one, if there is one.
 fn is_expected(expected: &Option<Setting>, setting: &Setting) -> bool
-    ensures { result ≡ is_had expected.now setting.now }
+    ensures { result ≡ is_expected expected.now setting.now }
 {
     match expected {
         Some(expected) => same_setting(expected, setting),
@@ -24,45 +32,37 @@ fn is_expected(expected: &Option<Setting>, setting: &Setting) -> bool
 fn check_behind(
     frame: u32,
     before: &Option<(TmccInfo, bool)>,
-    said: &(TmccInfo, bool),
+    word: &(TmccInfo, bool),
 ) -> Result<(), ReceiveFault>
-    ensures { MatchResult result (λ received. behind_refusal frame before.now said.now ≡ None) (λ fault. behind_refusal frame before.now said.now ≡ Some fault) }
+    ensures { MatchResult result (λ received. behind_refusal frame before.now word.now ≡ None) (λ fault. behind_refusal frame before.now word.now ≡ Some fault) }
 {
     let Some(last) = before else {
         return Ok(());
     };
-    if last.1 == said.1 {
+    if last.1 == word.1 {
         return Err(ReceiveFault::BadTmcc {
             frame,
             reason: TmccFault::Sync,
         });
     }
-    if !is_expected(&expected_setting(&last.0), &said.0.now) {
+    if !is_expected(&expected_setting(&last.0), &word.0.now) {
         return Err(ReceiveFault::Unannounced { frame });
     }
     Ok(())
 }
 
-/// What the word of a frame says, or why it is refused behind what the word of the frame before says, if there is one.
+/// What the bits of a frame's word say, or why the word is refused behind that of the frame before, if there is one.
 pub fn check_word(
     frame: u32,
     partial: bool,
     before: &Option<(TmccInfo, bool)>,
-    word: &[bool; 204],
+    bits: &[bool; 204],
 ) -> Result<(TmccInfo, bool), ReceiveFault>
-    ensures { MatchResult result (λ said. (read word.now ≡ Ok said) × (word_refusal frame partial before.now (read word.now) ≡ None)) (λ fault. word_refusal frame partial before.now (read word.now) ≡ Some fault) }
+    ensures { MatchResult result (λ word. (read bits.now ≡ Ok word) × (word_refusal frame partial before.now (read bits.now) ≡ None))
+        (λ fault. word_refusal frame partial before.now (read bits.now) ≡ Some fault) }
 {
-    let said = match read_word(word) {
-        Ok(said) => said,
-        Err(reason) => return Err(ReceiveFault::BadTmcc { frame, reason }),
-    };
-    match check_behind(frame, before, &said) {
-        Ok(()) => {}
-        Err(fault) => return Err(fault),
-    }
-    match check_part(frame, partial, &said.0.now) {
-        Ok(()) => {}
-        Err(fault) => return Err(fault),
-    }
-    Ok(said)
+    let word = read_word(bits).map_err(|reason| ReceiveFault::BadTmcc { frame, reason })?;
+    check_behind(frame, before, &word)?;
+    check_part(frame, partial, &word.0.now)?;
+    Ok(word)
 }

@@ -37,7 +37,7 @@ impl DecoderPart {
     ghost use Rattle.seg_receiver.specs.UsedDecoders.{AreCellsFrom};
     ghost use Rattle.seg_receiver.specs.DecoderPart.{cells_of, PartStandsFor, HasPacketsOf};
 
-    /// A decoder that has seen no symbol. Only memory can be wanting.
+    /// A decoder that has seen no symbol. Fails only if memory runs out.
     pub fn open(
         alloc: Global,
         layer: Option<LayerSetting>,

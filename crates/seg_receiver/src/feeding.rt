@@ -10,10 +10,10 @@ ghost use Rattle.seg_receiver.specs.FrameReading.{AreCellsOf, ShowsFrame, ReadAn
 ghost use Rattle.seg_receiver.specs.Receiver.{mode_of, guard_of, setting_of, symbols_of, StandsFor};
 
 use crate::receiver::Receiver;
-use crate::symbols::{put_cells, symbol_size, symbol_start};
+use crate::symbols::{read_cells, symbol_start};
 use cell_map::Cell;
 use edge_io::{Failed, Seat, Shelf, fill};
-use isdbt_base::Mode;
+use isdbt_base::{Mode, symbol_size};
 
 /// Feeds a frame that is held.
 pub fn feed_held(receiver: &mut Receiver, mode: Mode, frame: &[u8], cells: &mut [Cell])
@@ -30,7 +30,7 @@ pub fn feed_held(receiver: &mut Receiver, mode: Mode, frame: &[u8], cells: &mut 
     let size = symbol_size(mode);
     for k in 0..204 {
         let from = symbol_start(k, size);
-        put_cells(&frame[from..from + size], cells);
+        read_cells(&frame[from..from + size], cells);
         receiver.symbol(cells);
     }
 }
@@ -49,12 +49,9 @@ fn read_symbol<H: Shelf>(
     ensures cells { IfOk result (λ n. n ≡ length symbol.new → AreCellsOf symbol.new cells.new) }
     ensures cause { ShelfCause (Reading seats.In) (H.faults shelf.old) (H.faults shelf.new) result }
 {
-    let count = match fill(shelf, Seat::In, symbol) {
-        Ok(count) => count,
-        Err(Failed) => return Err(Failed),
-    };
+    let count = fill(shelf, Seat::In, symbol)?;
     if count == symbol.len() {
-        put_cells(symbol, cells);
+        read_cells(symbol, cells);
     }
     Ok(count)
 }

@@ -1,18 +1,17 @@
 //! The frames of a stream of cells, one after another: read, checked and written.
 
-ghost use Rattle.std.specs.Prelude.{◌≡◌, ℕ, List, ◌+◌, ◌*◌, ◌≤◌, ◌<◌, Bool, Some, None, true, false, length, take, OnOk, OnErr, IfOk, IfSome};
+ghost use Rattle.std.specs.Prelude.{◌≡◌, ℕ, List, ◌+◌, ◌*◌, ◌≤◌, ◌<◌, Some, None, true, false, length, take, OnOk, OnErr, IfOk, IfSome};
 ghost use Rattle.std.specs.declared.option.Option.{Option};
 ghost use Rattle.isdbt_base.specs.declared.kinds.Guard.{Guard};
 ghost use Rattle.isdbt_base.specs.Numbers.{carriers, slots_per_frame};
 ghost use Rattle.edge_io.specs.declared.shelf.Seat.TheVariants as seats;
 ghost use Rattle.edge_io.specs.Known.{append_known, ReachesRoom};
 ghost use Rattle.edge_io.specs.Causes.{HasCause};
-ghost use Rattle.edge_io.specs.FrameAnswers.{LoneAnswer, ReadingCause};
+ghost use Rattle.edge_io.specs.FrameAnswers.{ReadingCause};
 ghost use Rattle.coder_core.specs.SentCells.{frame_size};
-ghost use Rattle.tmcc_word.specs.Fields.{TmccFields};
 ghost use Rattle.seg_receiver.specs.CellStream.{FrameCells, stream_cell, first_version};
 ghost use Rattle.seg_receiver.specs.Receiver.{mode_of, guard_of, setting_of, symbols_of, StandsFor};
-ghost use Rattle.seg_receiver.specs.ReceiveAnswers.{receive_kind, receive_command};
+ghost use Rattle.seg_receiver.specs.ReceiveAnswers.{receive_kind};
 ghost use Rattle.seg_receiver.specs.EpochAnswers.{epoch_frame, FrameCheck, Progress, TakeAnswer};
 
 use crate::check_word::check_word;
@@ -26,8 +25,8 @@ use edge_io::{Failed, Seat, Shelf, Sink, fill, write_whole};
 use isdbt_base::Mode;
 use tmcc_word::TmccInfo;
 
-/// What the word of a frame says of which so many bytes came, None where none came, or why the frame is refused.
-fn check_frame(
+/// The word of a frame of which so many bytes came, None where none came, or why the frame is refused.
+fn word_read(
     number: u32,
     before: &Option<(TmccInfo, bool)>,
     mode: Mode,
@@ -47,26 +46,23 @@ fn check_frame(
             over: count as u32,
         });
     }
-    match check_word(number, false, before, &word_in(frame, mode)) {
-        Ok(said) => Ok(Some(said)),
-        Err(fault) => Err(fault),
-    }
+    let word = check_word(number, false, before, &word_in(frame, mode))?;
+    Ok(Some(word))
 }
 
 /// Reads the first frame of an epoch, which is held, and checks it.
 pub fn read_first<H: Shelf>(
     number: u32,
-    limit: u32,
     before: &Option<(TmccInfo, bool)>,
     mode: Mode,
     frame: &mut [u8],
     shelf: &mut H,
 ) -> Result<Option<(TmccInfo, bool)>, ReceiveFault>
-    requires below { number < limit }
     requires size { length frame.old ≡ frame_size mode }
     requires is_open { H.is_open shelf.old seats.In ≡ true }
     ensures still_open { H.is_open shelf.new ≡ H.is_open shelf.old }
-    ensures answer { (guard : Guard) (stream : List ℕ) (first now : Option (List ℕ)) → Progress (first_version mode guard stream) false stream limit number before.now (H.left shelf.old seats.In) first now
+    ensures answer { (guard : Guard) (stream : List ℕ) (limit : ℕ) (first now : Option (List ℕ)) → number < limit
+        → Progress (first_version mode guard stream) false stream limit number before.now (H.left shelf.old seats.In) first now
         → TakeAnswer (first_version mode guard stream) false stream limit number before.now frame.new first now (H.left shelf.new seats.In) result }
     ensures cause { ReadingCause receive_kind (H.faults shelf.old) (H.faults shelf.new) result }
 {
@@ -74,14 +70,13 @@ pub fn read_first<H: Shelf>(
         Ok(count) => count,
         Err(Failed) => return Err(ReceiveFault::ReadFault(Seat::In)),
     };
-    check_frame(number, before, mode, frame, count)
+    word_read(number, before, mode, frame, count)
 }
 
 /// Reads a further frame of an epoch, feeds its symbols as they come, and checks it.
 pub fn read_further<H: Shelf>(
     receiver: &mut Receiver,
     number: u32,
-    limit: u32,
     before: &Option<(TmccInfo, bool)>,
     mode: Mode,
     frame: &mut [u8],
@@ -90,16 +85,17 @@ pub fn read_further<H: Shelf>(
 ) -> Result<Option<(TmccInfo, bool)>, ReceiveFault>
     requires mode { mode_of receiver.old ≡ mode }
     requires fresh { symbols_of receiver.old ≡ 0 }
-    requires below { number < limit }
     requires size { length frame.old ≡ frame_size mode }
     requires room { length cells.old ≡ 13 * carriers mode }
     requires is_open { H.is_open shelf.old seats.In ≡ true }
     ensures still_open { H.is_open shelf.new ≡ H.is_open shelf.old }
-    ensures answer { (guard : Guard) (stream : List ℕ) (first now : Option (List ℕ)) → Progress (first_version mode guard stream) false stream limit number before.now (H.left shelf.old seats.In) first now
+    ensures answer { (guard : Guard) (stream : List ℕ) (limit : ℕ) (first now : Option (List ℕ)) → number < limit
+        → Progress (first_version mode guard stream) false stream limit number before.now (H.left shelf.old seats.In) first now
         → TakeAnswer (first_version mode guard stream) false stream limit number before.now frame.new first now (H.left shelf.new seats.In) result }
-    ensures state { IfOk result (λ o. IfSome o (λ said. (guard : Guard) (stream : List ℕ) (first now : Option (List ℕ)) → Progress (first_version mode guard stream) false stream limit number before.now (H.left shelf.old seats.In) first now
+    ensures state { IfOk result (λ o. IfSome o (λ word. (guard : Guard) (stream : List ℕ) (limit : ℕ) (first now : Option (List ℕ)) → number < limit
+        → Progress (first_version mode guard stream) false stream limit number before.now (H.left shelf.old seats.In) first now
         → (start h : ℕ) → start + h ≡ number → StandsFor receiver.old (stream_cell mode stream) start h → StandsFor receiver.new (stream_cell mode stream) start h)) }
-    ensures symbols { IfOk result (λ o. IfSome o (λ said. symbols_of receiver.new ≡ 204)) }
+    ensures symbols { IfOk result (λ o. IfSome o (λ word. symbols_of receiver.new ≡ 204)) }
     ensures mode_kept { mode_of receiver.new ≡ mode_of receiver.old }
     ensures guard { guard_of receiver.new ≡ guard_of receiver.old }
     ensures setting { setting_of receiver.new ≡ setting_of receiver.old }
@@ -109,29 +105,25 @@ pub fn read_further<H: Shelf>(
         Ok(count) => count,
         Err(Failed) => return Err(ReceiveFault::ReadFault(Seat::In)),
     };
-    match check_frame(number, before, mode, frame, count) {
-        Ok(Some(said)) => Ok(Some(said)),
-        Ok(None) => Ok(None),
-        Err(fault) => Err(fault),
-    }
+    word_read(number, before, mode, frame, count)
 }
 
-/// What the packets of a frame bear whose word says this.
-fn tag_of(said: &(TmccInfo, bool), first: bool) -> FrameTag
-    ensures { result ≡ record { odd = said.now.1; first = first; start_up = said.now.0.start_up; countdown = said.now.0.countdown } }
+/// What the packets of a frame with this word bear.
+fn tag_of(word: &(TmccInfo, bool), first: bool) -> FrameTag
+    ensures { result ≡ record { odd = word.now.1; first = first; start_up = word.now.0.start_up; countdown = word.now.0.countdown } }
 {
     FrameTag {
-        odd: said.1,
+        odd: word.1,
         first,
-        start_up: said.0.start_up,
-        countdown: said.0.countdown,
+        start_up: word.0.start_up,
+        countdown: word.0.countdown,
     }
 }
 
-/// Writes the frame that a receiver gives out behind a frame of cells whose word says this.
-pub fn put_frame<K: Sink>(
+/// Writes the frame of packets that a receiver gives out behind a frame of cells with this word.
+pub fn write_received<K: Sink>(
     receiver: &mut Receiver,
-    said: &(TmccInfo, bool),
+    word: &(TmccInfo, bool),
     first: bool,
     out: &mut [u8],
     sink: &mut K,
@@ -139,10 +131,10 @@ pub fn put_frame<K: Sink>(
     requires whole { symbols_of receiver.old ≡ 204 }
     requires room { length out.old ≡ 204 * slots_per_frame (mode_of receiver.old) (guard_of receiver.old) }
     ensures ok { OnOk result ((cell : FrameCells) (start h : ℕ) → StandsFor receiver.old cell start h
-        → K.written sink.new ≡ append_known (K.written sink.old) (epoch_frame (mode_of receiver.old) (guard_of receiver.old) (setting_of receiver.old) cell start h said.now first)) }
+        → K.written sink.new ≡ append_known (K.written sink.old) (epoch_frame (mode_of receiver.old) (guard_of receiver.old) (setting_of receiver.old) cell start h word.now first)) }
     ensures some { OnErr result ((cell : FrameCells) (start h : ℕ) → StandsFor receiver.old cell start h
-        → (n : ℕ) × (n < length (epoch_frame (mode_of receiver.old) (guard_of receiver.old) (setting_of receiver.old) cell start h said.now first))
-        × (K.written sink.new ≡ append_known (K.written sink.old) (take n (epoch_frame (mode_of receiver.old) (guard_of receiver.old) (setting_of receiver.old) cell start h said.now first)))) }
+        → (n : ℕ) × (n < length (epoch_frame (mode_of receiver.old) (guard_of receiver.old) (setting_of receiver.old) cell start h word.now first))
+        × (K.written sink.new ≡ append_known (K.written sink.old) (take n (epoch_frame (mode_of receiver.old) (guard_of receiver.old) (setting_of receiver.old) cell start h word.now first)))) }
     ensures state { (cell : FrameCells) (start h : ℕ) → StandsFor receiver.old cell start h → StandsFor receiver.new cell start (h + 1) }
     ensures symbols { symbols_of receiver.new ≡ 0 }
     ensures mode { mode_of receiver.new ≡ mode_of receiver.old }
@@ -152,27 +144,6 @@ pub fn put_frame<K: Sink>(
     ensures reached { OnErr result (ReachesRoom (K.room sink.old) (K.written sink.new)) }
     ensures cause { HasCause (K.faults sink.old) (K.faults sink.new) result }
 {
-    receiver.frame(&tag_of(said, first), out);
+    receiver.frame(&tag_of(word, first), out);
     write_whole(sink, out)
-}
-
-/// Whether the stream ends where the limit of frames is reached: reads one byte more.
-pub fn end_at_limit<H: Shelf>(
-    limit: u32,
-    mode: Mode,
-    frame: &mut [u8],
-    shelf: &mut H,
-) -> Result<u32, ReceiveFault>
-    requires size { length frame.old ≡ frame_size mode }
-    requires is_open { H.is_open shelf.old seats.In ≡ true }
-    ensures still_open { H.is_open shelf.new ≡ H.is_open shelf.old }
-    ensures answer { (guard : Guard) (stream : List ℕ) (last : Option (TmccFields × Bool)) (first now : Option (List ℕ)) → Progress (first_version mode guard stream) false stream limit limit last (H.left shelf.old seats.In) first now
-        → LoneAnswer receive_kind (receive_command (first_version mode guard stream) false stream limit) first now (H.left shelf.new seats.In) result }
-    ensures cause { ReadingCause receive_kind (H.faults shelf.old) (H.faults shelf.new) result }
-{
-    match fill(shelf, Seat::In, &mut frame[..1]) {
-        Ok(0) => Ok(limit),
-        Ok(_) => Err(ReceiveFault::TooLong),
-        Err(Failed) => Err(ReceiveFault::ReadFault(Seat::In)),
-    }
 }

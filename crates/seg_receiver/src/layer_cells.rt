@@ -1,6 +1,6 @@
 //! The cells of a layer in a symbol.
 
-ghost use Rattle.std.specs.Prelude.{◌≡◌, ℕ, ◌*◌, ◌≤◌, length};
+ghost use Rattle.std.specs.Prelude.{◌≡◌, ℕ, ◌*◌, length};
 ghost use Rattle.isdbt_base.specs.Parameters.{layer_of, number_of};
 ghost use Rattle.isdbt_base.specs.Numbers.{carriers, layer_cells, first_segment};
 ghost use Rattle.seg_receiver.specs.CellStream.{FrameCells};
@@ -8,18 +8,7 @@ ghost use Rattle.seg_receiver.specs.UsedDecoders.{AreCellsFrom};
 ghost use Rattle.seg_receiver.specs.Receiver.{IsSymbolOf};
 
 use cell_map::Cell;
-use isdbt_base::{Layer, LayerSetting, Mode, Setting};
-
-/// Cells of a layer in a symbol, none where it is unused.
-fn cell_count(layer: &Option<LayerSetting>, mode: Mode) -> u32
-    ensures value { result ≡ number_of (layer_cells mode) layer.now }
-    ensures most { result ≤ 4992 }
-{
-    match layer {
-        Some(used) => used.cells(mode),
-        None => 0,
-    }
-}
+use isdbt_base::{Layer, Mode, Setting};
 
 /// The cells of a layer among those of a symbol: layers take segments in the order A, B, C.
 pub fn layer_part<'a>(setting: &Setting, mode: Mode, layer: Layer, cells: &'a [Cell]) -> &'a [Cell]
@@ -29,6 +18,6 @@ pub fn layer_part<'a>(setting: &Setting, mode: Mode, layer: Layer, cells: &'a [C
 {
     setting.acceptance_law();
     let from = setting.cells_before(mode, layer) as usize;
-    let end = from + cell_count(&setting.layer(layer), mode) as usize;
+    let end = from + setting.cells(layer, mode) as usize;
     &cells[from..end]
 }

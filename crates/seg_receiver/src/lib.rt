@@ -13,6 +13,7 @@
 //! commands compose: what `code` finds in what `remux` writes is what was multiplexed, and it refuses none of it.
 #![tactic(auto)]
 
+mod buffers;
 mod check_word;
 mod compose_laws;
 mod decoder_part;
@@ -26,7 +27,6 @@ mod outcome_laws;
 mod packet_bytes;
 mod receiver;
 mod receiving;
-mod same;
 mod symbols;
 mod words;
 

@@ -51,7 +51,7 @@ impl Receiver {
     ghost use Rattle.seg_receiver.specs.Received.{setting_packet};
     ghost use Rattle.seg_receiver.specs.Receiver.{mode_of, guard_of, setting_of, symbols_of, IsSymbolOf, StandsFor};
 
-    /// A receiver of an epoch that has seen no symbol. Only memory can be wanting.
+    /// A receiver of an epoch that has seen no symbol. Fails only if memory runs out.
     pub fn open(
         alloc: Global,
         setting: &Setting,

@@ -1,21 +1,12 @@
 //! The symbols of a frame of cells that is held: its TMCC word, and the cells of a symbol.
 
 ghost use Rattle.std.specs.Prelude.{◌≡◌, ◌+◌, ◌*◌, ◌≤◌, ◌<◌, length};
-ghost use Rattle.isdbt_base.specs.Numbers.{carriers};
 ghost use Rattle.coder_core.specs.SentCells.{frame_size};
 ghost use Rattle.seg_receiver.specs.CellStream.{stream_word};
 ghost use Rattle.seg_receiver.specs.FrameReading.{cell_at, AreCellsOf};
 
 use cell_map::Cell;
-use isdbt_base::{Mode, carriers};
-
-/// Bytes of a symbol of cells.
-pub fn symbol_size(mode: Mode) -> usize
-    ensures value { result ≡ 1 + 26 * carriers mode }
-    ensures most { result ≤ 9985 }
-{
-    1 + 26 * carriers(mode) as usize
-}
+use isdbt_base::{Mode, symbol_size};
 
 /// Where a symbol begins in a frame.
 pub fn symbol_start(k: usize, size: usize) -> usize
@@ -39,8 +30,8 @@ fn cell_at(bytes: &[u8], at: usize) -> Cell
     }
 }
 
-/// Puts the cells of a symbol, which stand behind its TMCC byte.
-pub fn put_cells(symbol: &[u8], cells: &mut [Cell])
+/// Reads the cells of a symbol, which stand behind its TMCC byte.
+pub fn read_cells(symbol: &[u8], cells: &mut [Cell])
     requires { length symbol.now ≡ 1 + 2 * length cells.old }
     ensures { AreCellsOf symbol.now cells.new }
 {

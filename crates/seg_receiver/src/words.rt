@@ -9,13 +9,13 @@ use tmcc_word::TmccInfo;
 
 /// The setting that the word of a frame lets expect for the next frame: its next one where its countdown is 0, and else its
 /// present one (ARIB STD-B31 3.15.6.2).
-pub fn expected_setting(said: &TmccInfo) -> Option<Setting>
-    ensures { result ≡ expected said.entry.now }
+pub fn expected_setting(info: &TmccInfo) -> Option<Setting>
+    ensures { result ≡ expected info.entry.now }
 {
-    if said.countdown == 0 {
-        said.next
+    if info.countdown == 0 {
+        info.next
     } else {
-        Some(said.now)
+        Some(info.now)
     }
 }
 

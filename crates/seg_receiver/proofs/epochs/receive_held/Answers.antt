@@ -1,13 +1,11 @@
 use Rattle.std.proofs.Common.{◌≡◌, ◌+◌, true, false, refl, ap, sym, ◌∙◌, subst, arith}
 use Rattle.std.proofs.lemmas.Bool.{eq-eqb}
-use Rattle.isdbt_base.specs.declared.kinds.Guard.{Guard}
 use Rattle.edge_io.specs.declared.shelf.Seat.TheVariants as seats
 use Rattle.tmcc_word.specs.Fields.{TmccFields}
 use Rattle.seg_receiver.specs.CellStream.{stream_cell, first_version}
 use Rattle.seg_receiver.specs.Receiver.{mode_of, guard_of, setting_of}
 use Rattle.seg_receiver.specs.ReceiveAnswers.{given_frame}
 use Rattle.seg_receiver.specs.FrameReading.{ShowsFrame}
-use Rattle.seg_receiver.specs.EpochAnswers.{InEpoch, EpochAnswer}
 use Rattle.seg_receiver.proofs.SymbolPlaces.{shows-frame}
 use Rattle.seg_receiver.proofs.EpochProgress.{is-given, first_in, wrote_all, wrote_some}
 use Rattle.seg_receiver.proofs.ReceiveProgress.{write-failed}
@@ -15,40 +13,39 @@ use Rattle.seg_receiver.proofs.epochs.receive_held.Goals as goal
 
 pub returns-in-Err-clause-answer : goal.returns-in-Err-clause-answer
 returns-in-Err-clause-answer g c = λ stream last known first at taken.
-    let mode = c.args.mode in
+    let mode = c.args.reception.mode in
     let number = c.args.number in
     let cell = stream_cell mode stream in
-    let said = c.args.said.now in
-    let frame = c.args.frame.now in
+    let word = c.args.word.now in
+    let frame = c.args.buffers.now.frame.items in
     let here : number + 0 ≡ number = omega arith in
-    let shows = subst (λ f. ShowsFrame mode cell f frame) (sym here) (shows-frame mode stream frame number taken.frame_is) in
+    let held = subst (λ f. ShowsFrame mode cell f frame) (sym here) (shows-frame mode stream frame number taken.frame_is) in
+    let shows = subst (ShowsFrame mode cell (number + 0)) (sym c.deref.ensures.value) held in
     let fed = c.feed_held.ensures.state cell number 0 (c.in-Ok.ensures.state cell number) shows in
-    let setting : setting_of c.feed_held.new.receiver ≡ said.0.now = c.feed_held.ensures.setting ∙ c.in-Ok.ensures.setting ∙ ap (λ (i : TmccFields). i.now) c.info.view_is in
-    let is = is-given (first_version mode c.args.guard stream) number number 0 said true (mode_of c.feed_held.new.receiver) (guard_of c.feed_held.new.receiver) (setting_of c.feed_held.new.receiver)
+    let setting : setting_of c.feed_held.new.receiver ≡ word.0.now = c.feed_held.ensures.setting ∙ c.in-Ok.ensures.setting ∙ ap (λ (i : TmccFields). i.now) c.info.view_is in
+    let is = is-given (first_version mode c.args.reception.guard stream) number number 0 word true (mode_of c.feed_held.new.receiver) (guard_of c.feed_held.new.receiver) (setting_of c.feed_held.new.receiver)
     (c.feed_held.ensures.mode_kept ∙ c.in-Ok.ensures.mode) (c.feed_held.ensures.guard ∙ c.in-Ok.ensures.guard) setting
-    taken.said_is (at.begun c.requires.below) here (eq-eqb number number refl) in
+    taken.word_is (at.begun c.requires.below) here (eq-eqb number number refl) in
     let failed = c.in-Err.ensures.some cell number 0 fed in
-    let part = wrote_some _ (given_frame (first_version mode c.args.guard stream) false number) failed.0 (g.K.Sink.written c.args.sink.now) (g.K.Sink.written c.put_frame.new.sink) is failed.1 failed.2 in
-    write-failed (first_version mode c.args.guard stream) false stream c.args.limit number failed.0 last said frame known _ first (g.K.Sink.written c.args.sink.now) _ at.so_far taken part.0 part.1
+    let part = wrote_some _ (given_frame (first_version mode c.args.reception.guard stream) false number) failed.0 (g.K.Sink.written c.args.sink.now) (g.K.Sink.written c.write_received.new.sink) is failed.1 failed.2 in
+    write-failed (first_version mode c.args.reception.guard stream) false stream c.args.reception.limit number failed.0 last word frame known _ first (g.K.Sink.written c.args.sink.now) _ at.so_far taken part.0 part.1
 
 pub returns-clause-answer : goal.returns-clause-answer
 returns-clause-answer g c = λ stream last known first at taken.
-    let mode = c.args.mode in
+    let mode = c.args.reception.mode in
     let number = c.args.number in
     let cell = stream_cell mode stream in
-    let said = c.args.said.now in
-    let frame = c.args.frame.now in
+    let word = c.args.word.now in
+    let frame = c.args.buffers.now.frame.items in
     let here : number + 0 ≡ number = omega arith in
-    let shows = subst (λ f. ShowsFrame mode cell f frame) (sym here) (shows-frame mode stream frame number taken.frame_is) in
+    let held = subst (λ f. ShowsFrame mode cell f frame) (sym here) (shows-frame mode stream frame number taken.frame_is) in
+    let shows = subst (ShowsFrame mode cell (number + 0)) (sym c.deref.ensures.value) held in
     let fed = c.feed_held.ensures.state cell number 0 (c.in-Ok.ensures.state cell number) shows in
-    let setting : setting_of c.feed_held.new.receiver ≡ said.0.now = c.feed_held.ensures.setting ∙ c.in-Ok.ensures.setting ∙ ap (λ (i : TmccFields). i.now) c.info.view_is in
-    let is = is-given (first_version mode c.args.guard stream) number number 0 said true (mode_of c.feed_held.new.receiver) (guard_of c.feed_held.new.receiver) (setting_of c.feed_held.new.receiver)
+    let setting : setting_of c.feed_held.new.receiver ≡ word.0.now = c.feed_held.ensures.setting ∙ c.in-Ok.ensures.setting ∙ ap (λ (i : TmccFields). i.now) c.info.view_is in
+    let is = is-given (first_version mode c.args.reception.guard stream) number number 0 word true (mode_of c.feed_held.new.receiver) (guard_of c.feed_held.new.receiver) (setting_of c.feed_held.new.receiver)
     (c.feed_held.ensures.mode_kept ∙ c.in-Ok.ensures.mode) (c.feed_held.ensures.guard ∙ c.in-Ok.ensures.guard) setting
-    taken.said_is (at.begun c.requires.below) here (eq-eqb number number refl) in
-    let wrote = wrote_all _ (given_frame (first_version mode c.args.guard stream) false number) (g.K.Sink.written c.args.sink.now) (g.K.Sink.written c.put_frame.new.sink) is (c.in-Ok-put_frame.ensures.ok cell number 0 fed) in
-    let guard : guard_of c.put_frame.new.receiver ≡ c.args.guard = c.put_frame.ensures.guard ∙ c.feed_held.ensures.guard ∙ c.in-Ok.ensures.guard in
-    let so_far = first_in (first_version mode c.args.guard stream) false stream c.args.limit number last said frame known _ first (g.K.Sink.written c.args.sink.now) (g.K.Sink.written c.put_frame.new.sink) c.requires.below at taken wrote in
-    let stands = c.put_frame.ensures.state cell number 0 fed in
-    let P : Guard → Type 0 = λ i. InEpoch (first_version mode i stream) false stream c.args.limit number (number + 1) said (g.H.Shelf.left c.args.shelf.now seats.In) first (g.K.Sink.written c.put_frame.new.sink)
-    → EpochAnswer (first_version mode i stream) false stream c.args.limit first (g.K.Sink.written c.receive_further.new.sink) (g.H.Shelf.left c.receive_further.new.shelf seats.In) c.receive_further.result in
-    subst P guard (c.receive_further.ensures.answer stream number 1 first refl (omega arith) stands) so_far
+    taken.word_is (at.begun c.requires.below) here (eq-eqb number number refl) in
+    let wrote = wrote_all _ (given_frame (first_version mode c.args.reception.guard stream) false number) (g.K.Sink.written c.args.sink.now) (g.K.Sink.written c.write_received.new.sink) is (c.in-Ok-write_received.ensures.ok cell number 0 fed) in
+    let so_far = first_in (first_version mode c.args.reception.guard stream) false stream c.args.reception.limit number last word frame known _ first (g.K.Sink.written c.args.sink.now) (g.K.Sink.written c.write_received.new.sink) c.requires.below at taken wrote in
+    let stands = c.write_received.ensures.state cell number 0 fed in
+    c.receive_further.ensures.answer stream number 1 first refl (omega arith) stands so_far

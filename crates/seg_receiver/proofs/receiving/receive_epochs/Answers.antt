@@ -1,53 +1,75 @@
-use Rattle.std.proofs.Common.{◌≡◌, false, refl, ap, ◌∙◌, subst, arith, Ok}
+use Rattle.std.proofs.Common.{◌≡◌, Bool, true, false, refl, ap, ◌∙◌, subst, arith, Ok, drop, ◌*◌}
 use Rattle.edge_io.specs.declared.shelf.Seat.TheVariants as seats
+use Rattle.edge_io.specs.Reading.{EndsAnswer}
+use Rattle.coder_core.specs.SentCells.{frame_size}
 use Rattle.seg_receiver.specs.declared.epochs.EpochEnd.{EpochEnd}
 use Rattle.seg_receiver.specs.declared.epochs.EpochEnd.TheVariants.{Next}
 use Rattle.seg_receiver.specs.CellStream.{first_version}
 use Rattle.seg_receiver.specs.EpochAnswers.{EpochAnswer, EndsPast}
 use Rattle.seg_receiver.proofs.EpochProgress.{at_first, progress-at_limit}
+use Rattle.seg_receiver.proofs.ReceiveProgress.{ended_at_limit, too_long, stopped_at_limit}
 use Rattle.seg_receiver.proofs.receiving.receive_epochs.Goals as goal
 
-pub loop-epoch-init : goal.loop-epoch-init
-loop-epoch-init g c = record {
-  least = omega arith;
+pub loop-start-init : goal.loop-start-init
+loop-start-init g c = record {
   most = omega arith;
+  room_kept = c.requires.room_for;
   is_open = c.requires.is_open;
   still_open = refl;
   shelf_kept = refl;
   sink_kept = refl;
   sink_room = refl;
-  told = λ stream told. at_first c.args.mode c.args.guard false stream c.args.limit _ _ told;
+  told = λ stream told. at_first c.args.reception.mode c.args.reception.guard false stream c.args.reception.limit _ _ told;
 }
-
-pub returns-then-number-limit-clause-answer : goal.returns-then-number-limit-clause-answer
-returns-then-number-limit-clause-answer g c = λ stream told.
-    c.end_at_limit.ensures.answer c.args.guard stream _ _ _ (progress-at_limit (first_version c.args.mode c.args.guard stream) false stream c.args.limit c.loop-epoch.number c.loop-epoch.before _ _ _ c.if-number-limit.true (c.loop-epoch.invariant.told stream told))
-
-pub returns-clause-answer : goal.returns-clause-answer
-returns-clause-answer g c = λ stream told.
-    let least = c.loop-epoch.invariant.least in
-    let most = c.loop-epoch.invariant.most in
-    let end : c.loop-epoch.number ≡ c.args.limit = omega (arith, least, most) in
-    c.end_at_limit-2.ensures.answer c.args.guard stream _ _ _ (progress-at_limit (first_version c.args.mode c.args.guard stream) false stream c.args.limit c.loop-epoch.number c.loop-epoch.before _ _ _ end (c.loop-epoch.invariant.told stream told))
 
 pub returns-in-Ok-Input-clause-answer : goal.returns-in-Ok-Input-clause-answer
 returns-in-Ok-Input-clause-answer g c = λ stream told.
-    let P : EpochEnd → Type 0 = λ e. EpochAnswer (first_version c.args.mode c.args.guard stream) false stream c.args.limit (g.K.Sink.written c.args.sink.now) (g.K.Sink.written c.receive_epoch-end.new.sink) (g.H.Shelf.left c.receive_epoch-end.new.shelf seats.In) (Ok e) in
-    subst P c.in-Ok-Input.field-0-is (c.in-Ok-Input.ensures.answer stream (g.K.Sink.written c.args.sink.now) (c.loop-epoch.invariant.told stream told))
+    let P : EpochEnd → Type 0 = λ e. EpochAnswer (first_version c.args.reception.mode c.args.reception.guard stream) false stream c.args.reception.limit (g.K.Sink.written c.args.sink.now) (g.K.Sink.written c.receive_epoch-end.new.sink) (g.H.Shelf.left c.receive_epoch-end.new.shelf seats.In) (Ok e) in
+    subst P c.in-Ok-Input.field-0-is (c.in-Ok-Input.ensures.answer stream (g.K.Sink.written c.args.sink.now) (c.loop-start.invariant.told stream told))
 
-pub loop-epoch-preserved : goal.loop-epoch-preserved
-loop-epoch-preserved g c =
-    let P : EpochEnd → Type 0 = λ e. EndsPast c.loop-epoch.number c.args.limit (Ok e) in
-    let past : P (Next c.in-Ok-Next.next c.in-Ok-Next.said) = subst P c.in-Ok-Next.field-0-is c.in-Ok-Next.ensures.past in
+pub loop-start-preserved : goal.loop-start-preserved
+loop-start-preserved g c =
+    let P : EpochEnd → Type 0 = λ e. EndsPast c.loop-start.start.frame c.args.reception.limit (Ok e) in
+    let past : P (Next c.in-Ok-Next.next) = subst P c.in-Ok-Next.field-0-is c.in-Ok-Next.ensures.past in
     record {
-      least = (let least = c.loop-epoch.invariant.least in let more = past.0 in omega (arith, least, more));
       most = past.1;
-      is_open = ap (λ f. f seats.In) c.in-Ok-Next.ensures.still_open ∙ c.loop-epoch.invariant.is_open;
-      still_open = c.in-Ok-Next.ensures.still_open ∙ c.loop-epoch.invariant.still_open;
-      shelf_kept = c.in-Ok-Next.ensures.cause.0 ∙ c.loop-epoch.invariant.shelf_kept;
-      sink_kept = c.in-Ok-Next.ensures.cause.1 ∙ c.loop-epoch.invariant.sink_kept;
-      sink_room = c.in-Ok-Next.ensures.sink_room ∙ c.loop-epoch.invariant.sink_room;
+      room_kept = c.in-Ok-Next.ensures.kept;
+      is_open = ap (λ f. f seats.In) c.in-Ok-Next.ensures.still_open ∙ c.loop-start.invariant.is_open;
+      still_open = c.in-Ok-Next.ensures.still_open ∙ c.loop-start.invariant.still_open;
+      shelf_kept = c.in-Ok-Next.ensures.cause.0 ∙ c.loop-start.invariant.shelf_kept;
+      sink_kept = c.in-Ok-Next.ensures.cause.1 ∙ c.loop-start.invariant.sink_kept;
+      sink_room = c.in-Ok-Next.ensures.sink_room ∙ c.loop-start.invariant.sink_room;
       told = λ stream told. (
-          let P : EpochEnd → Type 0 = λ e. EpochAnswer (first_version c.args.mode c.args.guard stream) false stream c.args.limit (g.K.Sink.written c.args.sink.now) (g.K.Sink.written c.receive_epoch-end.new.sink) (g.H.Shelf.left c.receive_epoch-end.new.shelf seats.In) (Ok e) in
-          subst P c.in-Ok-Next.field-0-is (c.in-Ok-Next.ensures.answer stream (g.K.Sink.written c.args.sink.now) (c.loop-epoch.invariant.told stream told)));
+          let P : EpochEnd → Type 0 = λ e. EpochAnswer (first_version c.args.reception.mode c.args.reception.guard stream) false stream c.args.reception.limit (g.K.Sink.written c.args.sink.now) (g.K.Sink.written c.receive_epoch-end.new.sink) (g.H.Shelf.left c.receive_epoch-end.new.shelf seats.In) (Ok e) in
+          subst P c.in-Ok-Next.field-0-is (c.in-Ok-Next.ensures.answer stream (g.K.Sink.written c.args.sink.now) (c.loop-start.invariant.told stream told)));
     }
+
+pub loop-start-smaller : goal.loop-start-smaller
+loop-start-smaller g c =
+    let P : EpochEnd → Type 0 = λ e. EndsPast c.loop-start.start.frame c.args.reception.limit (Ok e) in
+    let past : P (Next c.in-Ok-Next.next) = subst P c.in-Ok-Next.field-0-is c.in-Ok-Next.ensures.past in
+    let less = past.0 in
+    let most = past.1 in
+    omega (arith, less, most)
+
+pub returns-in-Ok-true-clause-answer : goal.returns-in-Ok-true-clause-answer
+returns-in-Ok-true-clause-answer g c = λ stream told.
+    let end : c.loop-start.start.frame ≡ c.args.reception.limit = (let most = c.loop-start.invariant.most in omega (arith, most)) in
+    let so_far = progress-at_limit (first_version c.args.reception.mode c.args.reception.guard stream) false stream c.args.reception.limit c.loop-start.start.frame c.loop-start.start.before _ _ _ end (c.loop-start.invariant.told stream told) in
+    let P : Bool → Type 0 = λ b. EndsAnswer (drop (c.args.reception.limit * frame_size c.args.reception.mode) stream) (g.H.Shelf.left c.ends.new.shelf seats.In) (Ok b) in
+    let ends : P true = subst P c.in-Ok-true.field-0-test (c.in-Ok-true.ensures.answer _ so_far.left_is) in
+    ended_at_limit c.args.reception.mode c.args.reception.guard false stream c.args.reception.limit _ _ _ _ _ so_far ends.0 ends.1
+
+pub returns-in-Ok-false-clause-answer : goal.returns-in-Ok-false-clause-answer
+returns-in-Ok-false-clause-answer g c = λ stream told.
+    let end : c.loop-start.start.frame ≡ c.args.reception.limit = (let most = c.loop-start.invariant.most in omega (arith, most)) in
+    let so_far = progress-at_limit (first_version c.args.reception.mode c.args.reception.guard stream) false stream c.args.reception.limit c.loop-start.start.frame c.loop-start.start.before _ _ _ end (c.loop-start.invariant.told stream told) in
+    let P : Bool → Type 0 = λ b. EndsAnswer (drop (c.args.reception.limit * frame_size c.args.reception.mode) stream) (g.H.Shelf.left c.ends.new.shelf seats.In) (Ok b) in
+    let ends : P false = subst P c.in-Ok-false.field-0-test (c.in-Ok-false.ensures.answer _ so_far.left_is) in
+    too_long c.args.reception.mode c.args.reception.guard false stream c.args.reception.limit _ _ _ _ _ so_far ends.0 ends.1
+
+pub returns-in-Err-ends-clause-answer : goal.returns-in-Err-ends-clause-answer
+returns-in-Err-ends-clause-answer g c = λ stream told.
+    let end : c.loop-start.start.frame ≡ c.args.reception.limit = (let most = c.loop-start.invariant.most in omega (arith, most)) in
+    let so_far = progress-at_limit (first_version c.args.reception.mode c.args.reception.guard stream) false stream c.args.reception.limit c.loop-start.start.frame c.loop-start.start.before _ _ _ end (c.loop-start.invariant.told stream told) in
+    stopped_at_limit c.args.reception.mode c.args.reception.guard false stream c.args.reception.limit seats.In _ _ _ _ _ so_far (c.in-Err-ends.ensures.answer _ so_far.left_is)

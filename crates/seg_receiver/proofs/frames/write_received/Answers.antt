@@ -5,7 +5,7 @@ use Rattle.isdbt_base.specs.Parameters.{layer_of}
 use Rattle.frame_order.specs.OrderedFrame.{ordered_frame}
 use Rattle.seg_receiver.specs.Received.{setting_packet}
 use Rattle.seg_receiver.specs.Receiver.{mode_of, guard_of, setting_of}
-use Rattle.seg_receiver.proofs.frames.put_frame.Goals as goal
+use Rattle.seg_receiver.proofs.frames.write_received.Goals as goal
 
 -- what follows from a fact that comes with an Ok or with an Err comes with it
 with_ok : {T E P Q : Type 0} (r : Result T E) → (P → Q) → OnOk r P → OnOk r Q

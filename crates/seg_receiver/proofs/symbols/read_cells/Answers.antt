@@ -4,7 +4,7 @@ use Rattle.std.proofs.lemmas.List.Edits.{fill_by_more}
 use Rattle.std.proofs.lemmas.Option.{slice_get-get_or}
 use Rattle.cell_map.specs.declared.cell.Cell.{Cell}
 use Rattle.seg_receiver.specs.FrameReading.{cell_at}
-use Rattle.seg_receiver.proofs.symbols.put_cells.Goals as goal
+use Rattle.seg_receiver.proofs.symbols.read_cells.Goals as goal
 
 abbrev zero_cell : Cell
 zero_cell = record { i = pos 0; q = pos 0 }
