@@ -1,0 +1,160 @@
+//! The commands over streams in memory.
+
+ghost use Rattle.std.specs.Prelude.{◌≡◌, ◌≤◌, ◌<◌, true, IfOk};
+ghost use Rattle.edge_io.specs.declared.shelf.Seat.{Seat as Place};
+ghost use Rattle.edge_io.specs.declared.shelf.Seat.TheVariants as seats;
+ghost use Rattle.edge_io.specs.MemoryShelf.{is_seat_open};
+
+use crate::plans::{PlanRow, SINGLE, plan_of};
+use crate::streams::marked_packets;
+use coder_core::{CodeFault, code};
+use edge_io::{MemoryShelf, MemorySink, Seat, Shelf};
+use isdbt_base::{Guard, Mode};
+use remux_core::{RemuxFault, remux};
+use seg_receiver::{ReceiveFault, receive};
+use std::alloc::Global;
+use std::test::Fail;
+
+/// Room for all that a test writes.
+pub const ROOM: usize = 30_000_000;
+
+/// More frames than a test has.
+pub const LIMIT: u32 = 1000;
+
+/// How a remultiplexing ended, what it wrote, and how many bytes of layer A's input it left.
+#[derive(Drop)]
+pub struct RemuxEnd {
+    pub answer: Result<u32, RemuxFault>,
+    pub out: MemorySink,
+    pub left: usize,
+}
+
+/// How a coding ended, what it wrote, and how many bytes of its input it left.
+#[derive(Drop)]
+pub struct CodeEnd {
+    pub answer: Result<u32, CodeFault>,
+    pub out: MemorySink,
+    pub left: usize,
+}
+
+/// How a receiving ended, what it wrote, and how many bytes of its input it left.
+#[derive(Drop)]
+pub struct ReceiveEnd {
+    pub answer: Result<u32, ReceiveFault>,
+    pub out: MemorySink,
+    pub left: usize,
+}
+
+/// How many bytes a seat has left, of an input of at most so many.
+fn left_at(alloc: Global, shelf: &mut MemoryShelf, seat: Seat, most: usize) -> Result<usize, Fail>
+    requires { is_seat_open shelf.old seat ≡ true }
+{
+    let mut rest = vec![in alloc; 0; most.max(1)]?;
+    Ok(shelf.read(seat, &mut rest)?)
+}
+
+/// Remultiplexes the packets of layers A, B and C with a limit on frames.
+pub fn remux_within(
+    alloc: Global,
+    row: &PlanRow,
+    inputs: [&[u8]; 3],
+    limit: u32,
+    mut out: MemorySink,
+) -> Result<RemuxEnd, Fail>
+    requires some { 0 < limit }
+    requires few { limit ≤ 16777216 }
+{
+    let plan = plan_of(row)?;
+    let mut shelf = MemoryShelf::new(alloc);
+    shelf.put("a", inputs[0])?;
+    shelf.put("b", inputs[1])?;
+    shelf.put("c", inputs[2])?;
+    shelf.open(Seat::A, "a")?;
+    shelf.open(Seat::B, "b")?;
+    shelf.open(Seat::C, "c")?;
+    let answer = remux(alloc, &plan, limit, &mut shelf, &mut out);
+    let left = left_at(alloc, &mut shelf, Seat::A, inputs[0].len())?;
+    Ok(RemuxEnd { answer, out, left })
+}
+
+/// A shelf of which the lone input is this stream.
+fn lone_shelf(alloc: Global, stream: &[u8]) -> Result<MemoryShelf, Fail>
+    ensures { IfOk result (λ shelf. is_seat_open shelf seats.In ≡ true) }
+{
+    let mut shelf = MemoryShelf::new(alloc);
+    shelf.put("in", stream)?;
+    shelf.open(Seat::In, "in")?;
+    Ok(shelf)
+}
+
+/// Codes a stream of broadcast packets.
+pub fn code_into(
+    alloc: Global,
+    row: &PlanRow,
+    stream: &[u8],
+    mut out: MemorySink,
+) -> Result<CodeEnd, Fail> {
+    let plan = plan_of(row)?;
+    let mut shelf = lone_shelf(alloc, stream)?;
+    let answer = code(alloc, &plan, LIMIT, &mut shelf, &mut out);
+    let left = left_at(alloc, &mut shelf, Seat::In, stream.len())?;
+    Ok(CodeEnd { answer, out, left })
+}
+
+/// Receives a stream of cells.
+pub fn receive_into(
+    alloc: Global,
+    mode: Mode,
+    guard: Guard,
+    cells: &[u8],
+    mut out: MemorySink,
+) -> Result<ReceiveEnd, Fail> {
+    let mut shelf = lone_shelf(alloc, cells)?;
+    let answer = receive(alloc, mode, guard, LIMIT, &mut shelf, &mut out);
+    let left = left_at(alloc, &mut shelf, Seat::In, cells.len())?;
+    Ok(ReceiveEnd { answer, out, left })
+}
+
+/// The frames of packets of layers A, B and C, and how many there are.
+pub fn remuxed(
+    alloc: Global,
+    row: &PlanRow,
+    inputs: [&[u8]; 3],
+) -> Result<(u32, MemorySink), Fail> {
+    let out = MemorySink::new(alloc, ROOM)?;
+    let ended = remux_within(alloc, row, inputs, LIMIT, out)?;
+    Ok((ended.answer?, ended.out))
+}
+
+/// The cells of a stream of broadcast packets, and how many frames there are.
+pub fn coded(alloc: Global, row: &PlanRow, stream: &[u8]) -> Result<(u32, MemorySink), Fail> {
+    let out = MemorySink::new(alloc, ROOM)?;
+    let ended = code_into(alloc, row, stream, out)?;
+    Ok((ended.answer?, ended.out))
+}
+
+/// What is received of cells in the mode of a row, and how many frames there are.
+pub fn received(alloc: Global, row: &PlanRow, cells: &[u8]) -> Result<(u32, MemorySink), Fail> {
+    let out = MemorySink::new(alloc, ROOM)?;
+    let ended = receive_into(alloc, row.mode, row.guard, cells, out)?;
+    Ok((ended.answer?, ended.out))
+}
+
+/// The cells of packets of layer A.
+pub fn cells_of(alloc: Global, row: &PlanRow, packets: &[u8]) -> Result<Vec<u8>, Fail> {
+    let (_, stream) = remuxed(alloc, row, [packets, &[], &[]])?;
+    let (_, cells) = coded(alloc, row, stream.bytes())?;
+    Ok(cells.bytes().to_vec(alloc)?)
+}
+
+/// The cells of three frames of a single layer, the first of 156 packets and the others of null packets.
+pub fn single_cells(alloc: Global) -> Result<Vec<u8>, Fail> {
+    cells_of(alloc, &SINGLE, &marked_packets(alloc, 156, 0x55)?)
+}
+
+/// The frames of a partial and a wide layer, of 100 and 6000 packets.
+pub fn wide_stream(alloc: Global, row: &PlanRow) -> Result<(u32, MemorySink), Fail> {
+    let a = marked_packets(alloc, 100, 0xAA)?;
+    let b = marked_packets(alloc, 6000, 0xBB)?;
+    remuxed(alloc, row, [&a, &b, &[]])
+}

@@ -1,0 +1,196 @@
+//! The cells that `code` writes against those of the second coder, for twelve settings of all kinds, and known values of its
+//! parts.
+
+use crate::commands::{coded, remuxed};
+use crate::model_rows::{CellRow, DEEP_LAYERS, MODE_2, MODE_3, SHALLOW};
+use crate::plans::LayerRow;
+use crate::streams::check;
+use isdbt_base::{DepthCode, Modulation, Rate};
+use model_coder::{
+    Difference, LayerScale, OuterCode, Scale, add_layer, coded_bits, dispersal, first_difference,
+    layer_packets,
+};
+use std::alloc::Global;
+use std::process::Abort;
+use std::test::Fail;
+
+/// So many packets of mixed bytes.
+fn mixed_packets(alloc: Global, count: usize, seed: u64) -> Result<Vec<u8>, Fail> {
+    let mut bytes = Vec::new(alloc);
+    let mut state = seed;
+    for place in 0..count.wrapping_mul(188) {
+        state = state
+            .wrapping_mul(6_364_136_223_846_793_005)
+            .wrapping_add(1_442_695_040_888_963_407);
+        let byte = (state / 72_057_594_037_927_936) as u8;
+        bytes.push(if place % 188 == 0 { 0x47 } else { byte })?;
+    }
+    Ok(bytes)
+}
+
+/// The bits of a cell.
+fn bits_of(modulation: Modulation) -> usize {
+    match modulation {
+        Modulation::Qpsk => 2,
+        Modulation::Qam16 => 4,
+        Modulation::Qam64 => 6,
+    }
+}
+
+/// The steps of an inner rate.
+fn steps_of(rate: Rate) -> usize {
+    match rate {
+        Rate::R12 => 1,
+        Rate::R23 => 2,
+        Rate::R34 => 3,
+        Rate::R56 => 5,
+        Rate::R78 => 7,
+    }
+}
+
+/// The time interleaving length in mode 3, of which mode 2 has twice as many symbols, and mode 1 four times.
+fn length_of(depth: DepthCode) -> usize {
+    match depth {
+        DepthCode::D0 => 0,
+        DepthCode::D1 => 1,
+        DepthCode::D2 => 2,
+        DepthCode::D3 => 4,
+    }
+}
+
+/// The second coder's numbers of a layer.
+fn layer_scale(row: &LayerRow, carriers: usize) -> LayerScale {
+    LayerScale {
+        segments: row.segments as usize,
+        bits: bits_of(row.modulation),
+        steps: steps_of(row.rate),
+        length: length_of(row.depth).wrapping_mul(384usize.checked_div(carriers).unwrap_or(0)),
+    }
+}
+
+/// The numbers of a row's layer, of no segments where it isn't used.
+fn scale_of(row: &CellRow, layer: usize) -> Scale {
+    let mut first = 0usize;
+    for before in row.plan.layers.iter().take(layer) {
+        first = first.wrapping_add(before.segments as usize);
+    }
+    let unused = LayerScale {
+        segments: 0,
+        bits: 2,
+        steps: 1,
+        length: 0,
+    };
+    Scale {
+        carriers: row.carriers,
+        frames: row.frames,
+        first,
+        layer: match row.plan.layers.get(layer) {
+            Some(layer) => layer_scale(layer, row.carriers),
+            None => unused,
+        },
+    }
+}
+
+/// Packets of a row's layer: for all frames but a few packets.
+fn input_of(alloc: Global, row: &CellRow, layer: usize) -> Result<Vec<u8>, Fail> {
+    let count = scale_of(row, layer)
+        .frame_packets()
+        .wrapping_mul(row.frames)
+        .saturating_sub(layer.wrapping_mul(5));
+    mixed_packets(alloc, count, (layer as u64).wrapping_add(7))
+}
+
+/// The broadcast packets of a row's frames that are coded.
+fn stream_of(alloc: Global, row: &CellRow) -> Result<Vec<u8>, Fail> {
+    let a = input_of(alloc, row, 0)?;
+    let b = input_of(alloc, row, 1)?;
+    let c = input_of(alloc, row, 2)?;
+    let (_, stream) = remuxed(alloc, &row.plan, [&a, &b, &c])?;
+    let len = row.slots.wrapping_mul(204).wrapping_mul(row.frames);
+    let front = stream.bytes().get(..len).unwrap_or(&[]);
+    Ok(front.to_vec(alloc)?)
+}
+
+/// The cells of all layers by the closed formulas.
+fn model_cells(alloc: Global, row: &CellRow, stream: &[u8]) -> Result<Vec<u8>, Fail> {
+    let count = row.carriers.wrapping_mul(13).wrapping_mul(204);
+    let mut cells = vec![in alloc; 0; count.wrapping_mul(row.frames)]?;
+    for (layer, indicator) in [(0, 1), (1, 2), (2, 3)] {
+        let packets = layer_packets(alloc, stream, indicator)?;
+        add_layer(alloc, &packets, &scale_of(row, layer), &mut cells)?;
+    }
+    Ok(cells)
+}
+
+/// The first difference in each layer, and how many cells are not of zero bits.
+fn compared(alloc: Global, row: &CellRow) -> Result<([Option<Difference>; 3], usize), Fail> {
+    let stream = stream_of(alloc, row)?;
+    let (frames, out) = coded(alloc, &row.plan, &stream)?;
+    let size = row
+        .carriers
+        .wrapping_mul(26)
+        .wrapping_add(1)
+        .wrapping_mul(204);
+    if frames as usize != row.frames || out.bytes().len() != size.wrapping_mul(row.frames) {
+        return Err(Fail::from("another count of frames"));
+    }
+    let cells = model_cells(alloc, row, &stream)?;
+    let found = |layer| first_difference(&scale_of(row, layer), &cells, out.bytes());
+    let others = cells.iter().filter(|cell| **cell != 0).count();
+    Ok(([found(0), found(1), found(2)], others))
+}
+
+/// Compares the cells of rows. Each has cells that are not of zero bits.
+fn compare(rt: &impl Abort, alloc: Global, rows: &[CellRow]) -> Result<(), Fail> {
+    for row in rows {
+        let (found, others) = compared(alloc, row)?;
+        check(rt, found == [None, None, None]);
+        check(rt, others > 20_000);
+    }
+    Ok(())
+}
+
+#[test]
+fn cells_of_twelve_settings_shallow(rt: HostRuntime) -> Result<(), Fail> {
+    compare(&rt, rt.alloc(), &SHALLOW)
+}
+
+#[test]
+fn cells_of_twelve_settings_deep(rt: HostRuntime) -> Result<(), Fail> {
+    compare(&rt, rt.alloc(), &DEEP_LAYERS)
+}
+
+#[test]
+fn cells_of_twelve_settings_mode_2(rt: HostRuntime) -> Result<(), Fail> {
+    compare(&rt, rt.alloc(), &MODE_2)
+}
+
+#[test]
+fn cells_of_twelve_settings_mode_3(rt: HostRuntime) -> Result<(), Fail> {
+    compare(&rt, rt.alloc(), &MODE_3)
+}
+
+/// Known values of the dispersal sequence, of the parity of a packet and of coded bits.
+#[test]
+fn known_pieces(rt: HostRuntime) -> Result<(), Fail> {
+    let alloc = rt.alloc();
+    let sequence = dispersal(alloc, 204)?;
+    check(&rt, sequence.starts_with(&[0x03, 0xF6, 0x08, 0x34]));
+    check(&rt, sequence.get(203) == Some(&0xD2));
+    let mut message = vec![in alloc; 0; 187]?;
+    message.push(1)?;
+    let parity = [
+        0x3B, 0x0D, 0x68, 0xBD, 0x44, 0xD1, 0x1E, 0x08, 0xA3, 0x41, 0x29, 0xE5, 0x62, 0x32, 0x24,
+        0x3B,
+    ];
+    let found = OuterCode::new(alloc)?.parity(alloc, &message)?;
+    check(&rt, found.as_slice() == parity.as_slice());
+    let inputs = [0, 0, 0, 0, 0, 0, 1, 0, 0, 0, 0, 0, 0];
+    let half = coded_bits(alloc, &inputs, 1, 7)?;
+    let bits = [1, 1, 1, 0, 1, 1, 1, 1, 0, 0, 0, 1, 1, 1];
+    check(&rt, half.as_slice() == bits.as_slice());
+    let most = coded_bits(alloc, &inputs, 7, 1)?;
+    let bits = [1, 1, 0, 1, 1, 0, 1, 1];
+    check(&rt, most.as_slice() == bits.as_slice());
+    Ok(())
+}

@@ -1,0 +1,116 @@
+//! Plans of one setting, as rows of tables.
+
+ghost use Rattle.std.specs.Prelude.{◌≡◌, [], IfOk};
+
+use isdbt_base::{DepthCode, Guard, LayerSetting, Mode, Modulation, Plan, Rate, Setting};
+use std::test::Fail;
+
+/// The numbers of a layer.
+#[derive(Clone, Copy)]
+pub struct LayerRow {
+    pub segments: u32,
+    pub modulation: Modulation,
+    pub rate: Rate,
+    pub depth: DepthCode,
+}
+
+/// A mode, a guard interval and a setting of up to three layers.
+#[derive(Clone, Copy)]
+pub struct PlanRow {
+    pub mode: Mode,
+    pub guard: Guard,
+    pub is_partial: bool,
+    pub layers: &'static [LayerRow],
+}
+
+/// QPSK, rate 1/2, no time interleaving.
+pub const PLAIN: LayerRow = LayerRow {
+    segments: 13,
+    modulation: Modulation::Qpsk,
+    rate: Rate::R12,
+    depth: DepthCode::D0,
+};
+
+/// One layer of thirteen segments, of 156 packets a frame.
+pub const SINGLE: PlanRow = PlanRow {
+    mode: Mode::M1,
+    guard: Guard::G4,
+    is_partial: false,
+    layers: &[PLAIN],
+};
+
+/// The same with the deepest time interleaving.
+pub const DEEP: PlanRow = PlanRow {
+    layers: &[LayerRow {
+        depth: DepthCode::D3,
+        ..PLAIN
+    }],
+    ..SINGLE
+};
+
+/// A partial layer of one segment and a layer of twelve, of 64 and 2592 packets a frame, with delays of 4 and 3 frames.
+pub const PARTIAL_AND_WIDE: PlanRow = PlanRow {
+    mode: Mode::M3,
+    guard: Guard::G8,
+    is_partial: true,
+    layers: &[
+        LayerRow {
+            segments: 1,
+            modulation: Modulation::Qpsk,
+            rate: Rate::R23,
+            depth: DepthCode::D3,
+        },
+        LayerRow {
+            segments: 12,
+            modulation: Modulation::Qam64,
+            rate: Rate::R34,
+            depth: DepthCode::D2,
+        },
+    ],
+};
+
+/// Two layers of mode 1.
+pub const TWO_LAYERS: PlanRow = PlanRow {
+    layers: &[
+        LayerRow {
+            segments: 1,
+            modulation: Modulation::Qpsk,
+            rate: Rate::R23,
+            depth: DepthCode::D1,
+        },
+        LayerRow {
+            segments: 12,
+            modulation: Modulation::Qam16,
+            rate: Rate::R34,
+            depth: DepthCode::D0,
+        },
+    ],
+    ..SINGLE
+};
+
+/// The layer of a row.
+fn layer_of(row: &LayerRow) -> Result<LayerSetting, Fail> {
+    match LayerSetting::new(row.segments, row.modulation, row.rate, row.depth) {
+        Some(layer) => Ok(layer),
+        None => Err(Fail::from("no such count of segments")),
+    }
+}
+
+/// The layer at a place of a row, where there is one.
+fn layer_at(row: &PlanRow, place: usize) -> Result<Option<LayerSetting>, Fail> {
+    match row.layers.get(place) {
+        Some(layer) => Ok(Some(layer_of(layer)?)),
+        None => Ok(None),
+    }
+}
+
+/// The plan of a row.
+pub fn plan_of(row: &PlanRow) -> Result<Plan, Fail>
+    ensures { IfOk result (λ plan. plan.switches ≡ []) }
+{
+    let Some(a) = layer_at(row, 0)? else {
+        return Err(Fail::from("no layer A"));
+    };
+    let setting = Setting::new(row.is_partial, a, layer_at(row, 1)?, layer_at(row, 2)?)?;
+    Ok(Plan::new(row.mode, row.guard, setting))
+}
