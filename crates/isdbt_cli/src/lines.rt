@@ -215,7 +215,7 @@ fn line_of(outcome: &Outcome) -> Line
 }
 
 /// Writes the line of an outcome. Where a write fails the rest is left out.
-pub fn tell<E: Sink>(outcome: &Outcome, err: &mut E)
+pub fn write_line<E: Sink>(outcome: &Outcome, err: &mut E)
     ensures told { IsTold (line_of outcome.now) (E.written err.old) (E.written err.new) (E.faults err.old) (E.faults err.new) }
     ensures room { E.room err.new ≡ E.room err.old }
 {

@@ -18,22 +18,16 @@ mod fields;
 mod grammar;
 mod inputs;
 #[cfg(test)]
-mod layers_tests;
+mod line_tests;
 mod lines;
-#[cfg(test)]
-mod plain_cells;
-#[cfg(test)]
-mod plain_coding;
-#[cfg(test)]
-mod plain_tests;
 #[cfg(test)]
 mod quiet_tests;
 #[cfg(test)]
-mod receive_testing;
-#[cfg(test)]
 mod receive_tests;
 #[cfg(test)]
-mod receive_words_tests;
+mod refused_words_tests;
+#[cfg(test)]
+mod remux_tests;
 mod run;
 mod setting_word;
 #[cfg(test)]

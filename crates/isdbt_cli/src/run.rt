@@ -31,7 +31,7 @@ ghost use Rattle.isdbt_cli.specs.Run.{layer_names, lone_name, names_of, Hold, Se
 use crate::command::Command;
 use crate::fault::{Outcome, RunFault};
 use crate::inputs::open_inputs;
-use crate::lines::tell;
+use crate::lines::write_line;
 use crate::words::Words;
 use coder_core::code;
 use edge_io::{Failed, Seat, Shelf, Sink};
@@ -41,7 +41,7 @@ use seg_receiver::receive;
 use std::alloc::Global;
 
 /// The most frames of a command.
-const FRAMES: u32 = 16_777_216;
+const MOST_FRAMES: u32 = 16_777_216;
 
 /// Remultiplexes the inputs of these names.
 fn run_remux<H: Shelf, K: Sink>(
@@ -67,7 +67,7 @@ fn run_remux<H: Shelf, K: Sink>(
         Ok(()) => {}
         Err(seat) => return Outcome::Fault(RunFault::OpenFault(seat)),
     }
-    match remux(alloc, plan, FRAMES, shelf, out) {
+    match remux(alloc, plan, MOST_FRAMES, shelf, out) {
         Ok(frames) => Outcome::Done(frames),
         Err(fault) => Outcome::Fault(RunFault::from(fault)),
     }
@@ -95,7 +95,7 @@ fn run_code<H: Shelf, K: Sink>(
         Ok(()) => {}
         Err(Failed) => return Outcome::Fault(RunFault::OpenFault(Seat::In)),
     }
-    match code(alloc, plan, FRAMES, shelf, out) {
+    match code(alloc, plan, MOST_FRAMES, shelf, out) {
         Ok(frames) => Outcome::Done(frames),
         Err(fault) => Outcome::Fault(RunFault::from(fault)),
     }
@@ -123,7 +123,7 @@ fn run_receive<H: Shelf, K: Sink>(
         Ok(()) => {}
         Err(Failed) => return Outcome::Fault(RunFault::OpenFault(Seat::In)),
     }
-    match receive(alloc, mode, guard, FRAMES, shelf, out) {
+    match receive(alloc, mode, guard, MOST_FRAMES, shelf, out) {
         Ok(frames) => Outcome::Done(frames),
         Err(fault) => Outcome::Fault(RunFault::from(fault)),
     }
@@ -233,12 +233,12 @@ pub fn run<H: Shelf, K: Sink, E: Sink>(
     match words.command() {
         Ok(command) => {
             let outcome = run_command(alloc, command, shelf, out);
-            tell(&outcome, err);
+            write_line(&outcome, err);
             outcome
         }
         Err(word) => {
             let outcome = Outcome::Fault(RunFault::Usage { word });
-            tell(&outcome, err);
+            write_line(&outcome, err);
             outcome
         }
     }

@@ -1,293 +1,244 @@
-//! Command lines, right and wrong.
+//! Command lines that are commands.
 
 use crate::command::Command;
 use crate::testing::words_of;
-use isdbt_base::{DepthCode, Guard, Layer, LayerSetting, Mode, Modulation, Plan, Rate, Setting};
+use isdbt_base::{DepthCode, Guard, LayerSetting, Mode, Modulation, Plan, Rate, Setting};
 use std::alloc::Global;
+use std::process::Abort;
 use std::test::Fail;
 
-/// A setting of one layer.
-const WIDE: &str = "A:13:qpsk:1/2:0";
-
-/// A setting of two layers.
-const TWO: &str = "A:1:qpsk:1/2:0,B:12:qpsk:1/2:0";
-
-/// A setting of three layers.
-const THREE: &str = "A:1:qpsk:1/2:0,B:6:16qam:2/3:8,C:6:64qam:7/8:16";
-
-/// The place of the words' fault.
-fn place_of(alloc: Global, list: &[&str]) -> Result<u64, Fail> {
-    let words = words_of(alloc, list)?;
-    match words.command() {
-        Ok(_) => Err(Fail::from("the words are a command")),
-        Err(place) => Ok(place),
-    }
-}
-
-#[test]
-fn places_of_faults(rt: HostRuntime) -> Result<(), Fail> {
-    let rows: [(&[&str], u64); 24] = [
-        (&[], 0),
-        (&["Remux", "1", "1/4", WIDE, "A=a"], 0),
-        (&["remux"], 1),
-        (&["remux", "4", "1/4", WIDE, "A=a"], 1),
-        (&["remux", "remux", "1", "1/4", WIDE, "A=a"], 1),
-        (&["remux", "2"], 2),
-        (&["remux", "1", "1/64", WIDE, "A=a"], 2),
-        (&["remux", "1", "1", "1/4", WIDE, "A=a"], 2),
-        (&["remux", "1", "1/4"], 3),
-        (&["remux", "1", "1/4", "A=a"], 3),
-        (&["remux", "1", "1/4", WIDE, WIDE, "A=a"], 4),
-        (&["remux", "1", "1/4", WIDE], 4),
-        (&["remux", "1", "1/4", WIDE, "A="], 4),
-        (&["remux", "1", "1/4", WIDE, "a=a"], 4),
-        (&["remux", "1", "1/4", WIDE, "A=a", "B=b"], 5),
-        (&["remux", "1", "1/4", WIDE, "A=a", "A=a"], 5),
-        (&["remux", "1", "1/4", TWO, "A=a"], 5),
-        (&["remux", "1", "1/4", TWO, "B=b", "A=a"], 4),
-        (&["remux", "1", "1/4", TWO, "A=a", "B="], 5),
-        (&["remux", "1", "1/4", TWO, "A=a", "C=c"], 5),
-        (&["remux", "1", "1/4", TWO, "A=a", "B=b", "C=c"], 6),
-        (&["remux", "1", "1/4", THREE, "A=a", "C=c", "B=b"], 5),
-        (&["remux", "1", "1/4", THREE, "A=a", "B=b"], 6),
-        (&["remux", "1", "1/4", THREE, "A=a", "B=b", "C=c", ""], 7),
-    ];
-    for (list, place) in rows {
-        assert_eq!(rt; place_of(rt.alloc(), list)?, place);
-    }
-    Ok(())
-}
-
-#[test]
-fn places_of_faults_of_code(rt: HostRuntime) -> Result<(), Fail> {
-    let rows: [(&[&str], u64); 16] = [
-        (&["Code", "3", "1/8", WIDE, "IN=x"], 0),
-        (&["decode", "3", "1/8", WIDE, "IN=x"], 0),
-        (&["code"], 1),
-        (&["code", "4", "1/8", WIDE, "IN=x"], 1),
-        (&["code", "remux", "3", "1/8", WIDE, "IN=x"], 1),
-        (&["code", "3", "1/5", WIDE, "IN=x"], 2),
-        (&["code", "3", "1/8"], 3),
-        (&["code", "3", "1/8", "A:13:qpsk:1/2:8", "IN=x"], 3),
-        (&["code", "3", "1/8", "IN=x"], 3),
-        (&["code", "3", "1/8", WIDE], 4),
-        (&["code", "3", "1/8", WIDE, "A=x"], 4),
-        (&["code", "3", "1/8", WIDE, "in=x"], 4),
-        (&["code", "3", "1/8", WIDE, "IN="], 4),
-        (&["code", "3", "1/8", TWO, "IN=x", "B=b"], 5),
-        (&["code", "3", "1/8", WIDE, "IN=x", ""], 5),
-        (&["remux", "3", "1/8", WIDE, "IN=x"], 4),
-    ];
-    for (list, place) in rows {
-        assert_eq!(rt; place_of(rt.alloc(), list)?, place);
-    }
-    Ok(())
-}
-
-#[test]
-fn places_of_faults_of_receive(rt: HostRuntime) -> Result<(), Fail> {
-    let rows: [(&[&str], u64); 20] = [
-        (&["Receive", "1", "1/4", "IN=x"], 0),
-        (&["receiv", "1", "1/4", "IN=x"], 0),
-        (&["receive "], 0),
-        (&["receive"], 1),
-        (&["receive", "0", "1/4", "IN=x"], 1),
-        (&["receive", "M1", "1/4", "IN=x"], 1),
-        (&["receive", "1/4", "1", "IN=x"], 1),
-        (&["receive", "IN=x"], 1),
-        (&["receive", "1"], 2),
-        (&["receive", "1", "1/2", "IN=x"], 2),
-        (&["receive", "1", "IN=x"], 2),
-        (&["receive", "1", "1/4"], 3),
-        (&["receive", "1", "1/4", "IN="], 3),
-        (&["receive", "1", "1/4", "IN"], 3),
-        (&["receive", "1", "1/4", "x"], 3),
-        (&["receive", "1", "1/4", "A=x"], 3),
-        (&["receive", "1", "1/4", WIDE, "IN=x"], 3),
-        (&["receive", "1", "1/4", "IN=x", ""], 4),
-        (&["receive", "1", "1/4", "IN=x", "IN=x"], 4),
-        (&["code", "1", "1/4", "IN=x"], 3),
-    ];
-    for (list, place) in rows {
-        assert_eq!(rt; place_of(rt.alloc(), list)?, place);
-    }
-    Ok(())
-}
-
-#[test]
-fn settings_of_no_mode(rt: HostRuntime) -> Result<(), Fail> {
-    let rows = [
-        ("1", "A:1:qpsk:1/2:0"),
-        ("1", "A:013:qpsk:1/2:0"),
-        ("1", "A:+13:qpsk:1/2:0"),
-        ("1", "A:0:qpsk:1/2:0,B:13:qpsk:1/2:0"),
-        ("1", "A:14:qpsk:1/2:0"),
-        ("1", "A:13:QPSK:1/2:0"),
-        ("1", "A:13:qpsk:4/5:0"),
-        ("1", "A:13:qpsk:1/2:00"),
-        ("1", "A:13:qpsk:1/2:2"),
-        ("2", "A:13:qpsk:1/2:16"),
-        ("3", "A:13:qpsk:1/2:8"),
-        ("1", "A:13:qpsk:1/2"),
-        ("1", "A:13:qpsk:1/2:0:0"),
-        ("1", "A:13:qpsk:1/2:0:"),
-        ("1", "A:13:qpsk:1/2:0,"),
-        ("1", "A:13:qpsk:1/2:0:partial"),
-        ("1", "A:1:qpsk:1/2:0,B:12:qpsk:1/2:0:partial"),
-        ("1", "A:1:partial:qpsk:1/2:0,B:12:qpsk:1/2:0"),
-        ("1", "A:1:qpsk:1/2:0,C:12:qpsk:1/2:0"),
-        ("1", "B:1:qpsk:1/2:0,A:12:qpsk:1/2:0"),
-        ("1", "A:1:qpsk:1/2:0,B:6:qpsk:1/2:0"),
-        ("1", "A:1:qpsk:1/2:0,B:6:qpsk:1/2:0,B:6:qpsk:1/2:0"),
-        (
-            "1",
-            "A:1:qpsk:1/2:0,B:1:qpsk:1/2:0,C:11:qpsk:1/2:0,D:1:qpsk:1/2:0",
-        ),
-        ("1", ""),
-    ];
-    for (mode, setting) in rows {
-        let list = ["remux", mode, "1/4", setting, "A=a"];
-        assert_eq!(rt; place_of(rt.alloc(), &list)?, 3);
-    }
-    Ok(())
-}
-
-fn layer(
+/// The numbers of a layer.
+struct LayerRow {
     segments: u32,
     modulation: Modulation,
     rate: Rate,
     depth: DepthCode,
-) -> Result<LayerSetting, Fail> {
-    match LayerSetting::new(segments, modulation, rate, depth) {
-        Some(made) => Ok(made),
+}
+
+/// Words, the plan that they spell, and the names of their inputs, nothing for an input that they don't name.
+struct CommandRow {
+    words: &'static [&'static str],
+    mode: Mode,
+    guard: Guard,
+    is_partial: bool,
+    layers: &'static [LayerRow],
+    names: [&'static str; 3],
+}
+
+/// The layer at a place of a row, where there is one.
+fn layer_at(row: &CommandRow, place: usize) -> Result<Option<LayerSetting>, Fail> {
+    let Some(layer) = row.layers.get(place) else {
+        return Ok(None);
+    };
+    match LayerSetting::new(layer.segments, layer.modulation, layer.rate, layer.depth) {
+        Some(made) => Ok(Some(made)),
         None => Err(Fail::from("no such count of segments")),
     }
 }
 
-#[test]
-fn one_layer(rt: HostRuntime) -> Result<(), Fail> {
-    let words = words_of(
-        rt.alloc(),
-        &["remux", "2", "1/16", "A:13:16qam:5/6:2", "A=-"],
-    )?;
+/// The setting of a row.
+fn setting_of(row: &CommandRow) -> Result<Setting, Fail> {
+    let Some(a) = layer_at(row, 0)? else {
+        return Err(Fail::from("no layer A"));
+    };
+    Ok(Setting::new(row.is_partial, a, layer_at(row, 1)?, layer_at(row, 2)?)?)
+}
+
+/// Checks that a plan is that of a row.
+fn check_plan(rt: &impl Abort, plan: &Plan, row: &CommandRow) -> Result<(), Fail> {
+    assert_eq!(rt; plan.mode(), row.mode);
+    assert_eq!(rt; plan.guard(), row.guard);
+    assert_eq!(rt; plan.at(0).setting, setting_of(row)?);
+    Ok(())
+}
+
+/// Checks words that are a `remux`.
+fn check_remux(rt: &impl Abort, alloc: Global, row: &CommandRow) -> Result<(), Fail> {
+    let words = words_of(alloc, row.words)?;
     let Command::Remux { plan, a, b, c } = words.command()? else {
         return Err(Fail::from("the words are another command"));
     };
-    let wanted = Setting::new(
-        false,
-        layer(13, Modulation::Qam16, Rate::R56, DepthCode::D1)?,
-        None,
-        None,
-    )?;
-    assert_eq!(rt; plan.mode(), Mode::M2);
-    assert_eq!(rt; plan.guard(), Guard::G16);
-    assert_eq!(rt; plan.at(0).setting, wanted);
-    assert!(rt; a == "-" && b.is_none() && c.is_none());
+    check_plan(rt, &plan, row)?;
+    assert!(rt; a == row.names[0]);
+    assert!(rt; b.unwrap_or("") == row.names[1]);
+    assert!(rt; c.unwrap_or("") == row.names[2]);
+    assert_eq!(rt; b.is_some(), row.layers.len() > 1);
+    assert_eq!(rt; c.is_some(), row.layers.len() > 2);
     Ok(())
 }
+
+const ONE_LAYER: CommandRow = CommandRow {
+    words: &["remux", "2", "1/16", "A:13:16qam:5/6:2", "A=-"],
+    mode: Mode::M2,
+    guard: Guard::G16,
+    is_partial: false,
+    layers: &[LayerRow {
+        segments: 13,
+        modulation: Modulation::Qam16,
+        rate: Rate::R56,
+        depth: DepthCode::D1,
+    }],
+    names: ["-", "", ""],
+};
+
+#[test]
+fn one_layer(rt: HostRuntime) -> Result<(), Fail> {
+    check_remux(&rt, rt.alloc(), &ONE_LAYER)
+}
+
+/// A partial layer of one segment and a layer of twelve.
+const TWO_LAYERS: &[LayerRow] = &[
+    LayerRow {
+        segments: 1,
+        modulation: Modulation::Qpsk,
+        rate: Rate::R23,
+        depth: DepthCode::D3,
+    },
+    LayerRow {
+        segments: 12,
+        modulation: Modulation::Qam64,
+        rate: Rate::R34,
+        depth: DepthCode::D2,
+    },
+];
+
+const PARTIAL_AND_WIDE: CommandRow = CommandRow {
+    words: &[
+        "remux",
+        "3",
+        "1/8",
+        "A:1:qpsk:2/3:4:partial,B:12:64qam:3/4:2",
+        "A=a",
+        "B=b",
+    ],
+    mode: Mode::M3,
+    guard: Guard::G8,
+    is_partial: true,
+    layers: TWO_LAYERS,
+    names: ["a", "b", ""],
+};
 
 #[test]
 fn partial_and_wide_layer(rt: HostRuntime) -> Result<(), Fail> {
-    let setting = "A:1:qpsk:2/3:4:partial,B:12:64qam:3/4:2";
-    let words = words_of(rt.alloc(), &["remux", "3", "1/8", setting, "A=a", "B=b"])?;
-    let Command::Remux { plan, a, b, c } = words.command()? else {
-        return Err(Fail::from("the words are another command"));
-    };
-    let wanted = Setting::new(
-        true,
-        layer(1, Modulation::Qpsk, Rate::R23, DepthCode::D3)?,
-        Some(layer(12, Modulation::Qam64, Rate::R34, DepthCode::D2)?),
-        None,
-    )?;
-    assert_eq!(rt; plan.mode(), Mode::M3);
-    assert_eq!(rt; plan.guard(), Guard::G8);
-    assert_eq!(rt; plan.at(0).setting, wanted);
-    assert!(rt; a == "a" && b.unwrap_or("") == "b" && c.is_none());
-    Ok(())
+    check_remux(&rt, rt.alloc(), &PARTIAL_AND_WIDE)
 }
+
+const THREE_LAYERS: CommandRow = CommandRow {
+    words: &[
+        "remux",
+        "1",
+        "1/32",
+        "A:1:qpsk:1/2:0,B:6:16qam:2/3:8,C:6:64qam:7/8:16",
+        "A=x",
+        "B=B=",
+        "C=,:",
+    ],
+    mode: Mode::M1,
+    guard: Guard::G32,
+    is_partial: false,
+    layers: &[
+        LayerRow {
+            segments: 1,
+            modulation: Modulation::Qpsk,
+            rate: Rate::R12,
+            depth: DepthCode::D0,
+        },
+        LayerRow {
+            segments: 6,
+            modulation: Modulation::Qam16,
+            rate: Rate::R23,
+            depth: DepthCode::D2,
+        },
+        LayerRow {
+            segments: 6,
+            modulation: Modulation::Qam64,
+            rate: Rate::R78,
+            depth: DepthCode::D3,
+        },
+    ],
+    names: ["x", "B=", ",:"],
+};
 
 #[test]
 fn three_layers(rt: HostRuntime) -> Result<(), Fail> {
-    let words = words_of(
-        rt.alloc(),
-        &["remux", "1", "1/32", THREE, "A=x", "B=B=", "C=,:"],
-    )?;
-    let Command::Remux { plan, a, b, c } = words.command()? else {
-        return Err(Fail::from("the words are another command"));
-    };
-    let wanted = Setting::new(
-        false,
-        layer(1, Modulation::Qpsk, Rate::R12, DepthCode::D0)?,
-        Some(layer(6, Modulation::Qam16, Rate::R23, DepthCode::D2)?),
-        Some(layer(6, Modulation::Qam64, Rate::R78, DepthCode::D3)?),
-    )?;
-    assert_eq!(rt; plan.mode(), Mode::M1);
-    assert_eq!(rt; plan.guard(), Guard::G32);
-    assert_eq!(rt; plan.at(0).setting, wanted);
-    assert!(rt; a == "x" && b.unwrap_or("") == "B=" && c.unwrap_or("") == ",:");
-    Ok(())
+    check_remux(&rt, rt.alloc(), &THREE_LAYERS)
 }
+
+const CODINGS: [CommandRow; 2] = [
+    CommandRow {
+        words: &["code", "3", "1/8", "A:13:qpsk:1/2:0", "IN=x"],
+        mode: Mode::M3,
+        guard: Guard::G8,
+        is_partial: false,
+        layers: &[LayerRow {
+            segments: 13,
+            modulation: Modulation::Qpsk,
+            rate: Rate::R12,
+            depth: DepthCode::D0,
+        }],
+        names: ["x", "", ""],
+    },
+    CommandRow {
+        words: &[
+            "code",
+            "3",
+            "1/8",
+            "A:1:qpsk:2/3:4:partial,B:12:64qam:3/4:2",
+            "IN=IN=",
+        ],
+        mode: Mode::M3,
+        guard: Guard::G8,
+        is_partial: true,
+        layers: TWO_LAYERS,
+        names: ["IN=", "", ""],
+    },
+];
 
 #[test]
 fn coding(rt: HostRuntime) -> Result<(), Fail> {
-    let one = Setting::new(
-        false,
-        layer(13, Modulation::Qpsk, Rate::R12, DepthCode::D0)?,
-        None,
-        None,
-    )?;
-    let partial = Setting::new(
-        true,
-        layer(1, Modulation::Qpsk, Rate::R23, DepthCode::D3)?,
-        Some(layer(12, Modulation::Qam64, Rate::R34, DepthCode::D2)?),
-        None,
-    )?;
-    // The setting's word, the setting, the input's word and its name.
-    let rows = [
-        (WIDE, one, "IN=x", "x"),
-        (
-            "A:1:qpsk:2/3:4:partial,B:12:64qam:3/4:2",
-            partial,
-            "IN=IN=",
-            "IN=",
-        ),
-    ];
-    for (setting, wanted, input, input_name) in rows {
-        let words = words_of(rt.alloc(), &["code", "3", "1/8", setting, input])?;
+    for row in &CODINGS {
+        let words = words_of(rt.alloc(), row.words)?;
         let Command::Code { plan, name } = words.command()? else {
             return Err(Fail::from("the words are another command"));
         };
-        assert_eq!(rt; plan.mode(), Mode::M3);
-        assert_eq!(rt; plan.guard(), Guard::G8);
-        assert_eq!(rt; plan.at(0).setting, wanted);
-        assert!(rt; name == input_name);
+        check_plan(&rt, &plan, row)?;
+        assert!(rt; name == row.names[0]);
+    }
+    Ok(())
+}
+
+const MODES: [(&str, Mode); 3] = [("1", Mode::M1), ("2", Mode::M2), ("3", Mode::M3)];
+
+const GUARDS: [(&str, Guard); 4] = [
+    ("1/4", Guard::G4),
+    ("1/8", Guard::G8),
+    ("1/16", Guard::G16),
+    ("1/32", Guard::G32),
+];
+
+/// The input's word and its name.
+const INPUTS: [(&str, &str); 3] = [("IN=x", "x"), ("IN=IN=", "IN="), ("IN=-", "-")];
+
+/// Checks words that are a `receive`, for each mode and guard interval.
+fn check_receive(rt: &impl Abort, alloc: Global, input: (&str, &str)) -> Result<(), Fail> {
+    for number in 0..12usize {
+        let (mode_word, wanted_mode) = MODES[number % 3];
+        let (guard_word, wanted_guard) = GUARDS[number / 3];
+        let words = words_of(alloc, &["receive", mode_word, guard_word, input.0])?;
+        let Command::Receive { mode, guard, name } = words.command()? else {
+            return Err(Fail::from("the words are another command"));
+        };
+        assert_eq!(rt; mode, wanted_mode);
+        assert_eq!(rt; guard, wanted_guard);
+        assert!(rt; name == input.1);
     }
     Ok(())
 }
 
 #[test]
 fn receiving(rt: HostRuntime) -> Result<(), Fail> {
-    let modes = [("1", Mode::M1), ("2", Mode::M2), ("3", Mode::M3)];
-    let guards = [
-        ("1/4", Guard::G4),
-        ("1/8", Guard::G8),
-        ("1/16", Guard::G16),
-        ("1/32", Guard::G32),
-    ];
-    // The input's word and its name.
-    let inputs = [("IN=x", "x"), ("IN=IN=", "IN="), ("IN=-", "-")];
-    for (mode_word, wanted_mode) in modes {
-        for (guard_word, wanted_guard) in guards {
-            for (input, input_name) in inputs {
-                let words = words_of(rt.alloc(), &["receive", mode_word, guard_word, input])?;
-                let Command::Receive { mode, guard, name } = words.command()? else {
-                    return Err(Fail::from("the words are another command"));
-                };
-                assert_eq!(rt; mode, wanted_mode);
-                assert_eq!(rt; guard, wanted_guard);
-                assert!(rt; name == input_name);
-            }
-        }
+    for input in INPUTS {
+        check_receive(&rt, rt.alloc(), input)?;
     }
     Ok(())
 }

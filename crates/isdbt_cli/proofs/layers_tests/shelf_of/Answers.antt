@@ -1,5 +1,0 @@
-use Rattle.std.proofs.Common.{ap, ◌∙◌}
-use Rattle.isdbt_cli.proofs.layers_tests.shelf_of.Goals as goal
-
-pub returns : goal.returns
-returns c = λ seat. ap (λ f. f seat) c.put-3.ensures.seats.is_open ∙ ap (λ f. f seat) c.put-2.ensures.seats.is_open ∙ ap (λ f. f seat) c.put.ensures.seats.is_open ∙ c.new-shelf.ensures.closed seat

@@ -1,5 +1,0 @@
-use Rattle.std.proofs.Common.{ap, ◌∙◌}
-use Rattle.isdbt_cli.proofs.tests.shelf_of.Goals as goal
-
-pub returns : goal.returns
-returns c = λ seat. ap (λ f. f seat) c.put.ensures.seats.is_open ∙ c.new-shelf.ensures.closed seat

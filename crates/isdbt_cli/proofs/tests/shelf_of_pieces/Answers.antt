@@ -1,5 +1,0 @@
-use Rattle.std.proofs.Common.{ap, ◌∙◌}
-use Rattle.isdbt_cli.proofs.tests.shelf_of_pieces.Goals as goal
-
-pub returns : goal.returns
-returns c = λ seat. ap (λ f. f seat) c.pieces.ensures.seats.is_open ∙ c.in_ok-shelf.ensures seat
