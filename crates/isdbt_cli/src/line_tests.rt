@@ -1,7 +1,7 @@
 //! The lines of faults, and their statuses.
 
 use crate::fault::{Outcome, RunFault};
-use crate::lines::tell;
+use crate::lines::write_line;
 use coder_core::CodeFault;
 use edge_io::{MemorySink, Seat};
 use isdbt_base::Layer;
@@ -20,7 +20,7 @@ fn check_line(
     line: &str,
 ) -> Result<(), Fail> {
     let mut err = MemorySink::new(alloc, 100)?;
-    tell(&outcome, &mut err);
+    write_line(&outcome, &mut err);
     assert_eq!(rt; outcome.status(), status);
     assert!(rt; err.bytes() == line.as_bytes(), "{line}");
     Ok(())
@@ -90,7 +90,7 @@ fn fault_lines(rt: HostRuntime) -> Result<(), Fail> {
     }
     check_line(&rt, alloc, Outcome::Done(5), 0, "")?;
     let mut full = MemorySink::new(alloc, 10)?;
-    tell(&Outcome::Fault(RunFault::NoMemory), &mut full);
+    write_line(&Outcome::Fault(RunFault::NoMemory), &mut full);
     assert!(rt; full.bytes() == b"isdbt: 14 ".as_slice());
     Ok(())
 }
