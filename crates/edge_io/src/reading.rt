@@ -79,6 +79,7 @@ pub fn fill_behind<H: Shelf>(
     ensures names { H.holds shelf.new ≡ H.holds shelf.old }
     ensures other_left { OthersKeep seat (H.left shelf.old) (H.left shelf.new) }
     ensures still_open { H.is_open shelf.new ≡ H.is_open shelf.old }
+    ensures front { take held buf.new ≡ take held buf.old }
     ensures least { IfOk result (λ n. held ≤ n) }
     ensures most { IfOk result (λ n. n ≤ length buf.new) }
     ensures answer { (bytes : List ℕ) → H.left shelf.old seat ≡ Some bytes
