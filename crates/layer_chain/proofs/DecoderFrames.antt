@@ -15,7 +15,7 @@ use Rattle.layer_chain.specs.OuterWords.{outer_answer, outer_word, unit_answer, 
 use Rattle.layer_chain.specs.SymbolReader as reader
 use Rattle.layer_chain.specs.DecidedBytes.{decided_byte}
 use Rattle.layer_chain.specs.DecidedBytes as decided
-use Rattle.layer_chain.specs.UnitAnswers.{word_in}
+use Rattle.layer_chain.specs.UnitWords.{word_in}
 use Rattle.layer_chain.specs.LayerDecoder.{steps_after, bytes_after}
 use Rattle.layer_chain.specs.declared.symbol_reader.SymbolReader.{SymbolReader}
 use Rattle.layer_chain.specs.declared.decided_bytes.DecidedBytes.{DecidedBytes}

@@ -7,6 +7,7 @@ pub mod DecoderFrames
 pub mod DecoderParts
 pub mod DecoderSteps
 pub mod HeldItems
+pub mod LaidPackets
 pub mod LayerCellLaws
 pub mod LayerFrames
 pub mod LayerParts

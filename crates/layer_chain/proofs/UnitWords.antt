@@ -7,7 +7,7 @@ use Rattle.energy_prbs.specs.Sequence.{byte_of_bits, sequence_byte}
 use Rattle.byte_inter.specs.BytePlaces.{byte_place}
 use Rattle.layer_chain.specs.SentBytes.{dispersal_byte}
 use Rattle.layer_chain.specs.OuterWords.{outer_word}
-use Rattle.layer_chain.specs.UnitAnswers.{word_in}
+use Rattle.layer_chain.specs.UnitWords.{word_in}
 
 -- the dispersal begins anew with each frame
 dispersal-frame : (t f n m : ℕ) → m ≡ 204 * t * f + n → dispersal_byte t n ≡ dispersal_byte t m

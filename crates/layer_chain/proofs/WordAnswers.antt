@@ -6,7 +6,7 @@ use Rattle.std.proofs.lemmas.List.{get_or-take, get_or-drop, get_or-append_right
 use Rattle.std.proofs.lemmas.List.FromFn.{fill_by_all}
 use Rattle.energy_prbs.specs.Sequence.{sequence_byte}
 use Rattle.layer_chain.specs.SentBytes.{dispersal_byte}
-use Rattle.layer_chain.specs.UnitAnswers.{word_in}
+use Rattle.layer_chain.specs.UnitWords.{word_in}
 
 -- byte a of unit j of a frame, among the bytes of all its units
 pub unit-byte : (units : List ℕ) (at a : ℕ) → a < 204 → get_or (take (at + 204 - at) (drop at units)) a 0 ≡ get_or units (at + a) 0

@@ -1,4 +1,4 @@
--- The coded bits of a layer in an epoch (ARIB STD-B31 3.4 to 3.8).
+-- The coded bits of a layer in an epoch.
 use Rattle.std.specs.Prelude.{ℕ, Bool, List}
 use Rattle.isdbt_base.specs.declared.kinds.Mode.{Mode}
 use Rattle.isdbt_base.specs.LayerParameters.{LayerParameters}

@@ -11,4 +11,4 @@ pub mod OuterWords
 pub mod SentBytes
 pub mod Streams
 pub mod SymbolReader
-pub mod UnitAnswers
+pub mod UnitWords

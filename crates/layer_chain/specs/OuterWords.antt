@@ -1,4 +1,4 @@
--- The receiving side of a layer: outer words, and the packets that are given out for them (ARIB STD-B31 3.4 to 3.8, backwards).
+-- The receiving side of a layer: outer words, and the packets that are given out for them.
 use Rattle.std.specs.Prelude.{ℕ, zero, suc, ◌+◌, ◌-◌, ◌*◌, Bool, Option, Some, None, List, [], ◌∷◌, map, flat_map, take, length, slice_index, bit_xor, if◌then◌else◌, ◌&&◌, ◌==◌, nat_le}
 use Rattle.std.specs.List.{range_with_len, list_all, find}
 use Rattle.isdbt_base.specs.declared.kinds.Mode.{Mode}

@@ -1,4 +1,4 @@
--- The bytes of a layer in an epoch as they are sent, before delay adjustment and interleaving (ARIB STD-B31 3.4, 3.5).
+-- The bytes of a layer in an epoch as they are sent, before delay adjustment and interleaving.
 use Rattle.std.specs.Prelude.{ℕ, ◌+◌, ◌*◌, ◌/◌, ◌%◌, List, slice_index, bit_xor, if◌then◌else◌, ◌==◌}
 use Rattle.gf_rs.specs.Codewords.{codeword_of}
 use Rattle.energy_prbs.specs.Sequence.{sequence_byte}

@@ -19,7 +19,7 @@ pub struct Adjusted<S: Stage + Drop> {
 }
 
 impl<S: Stage + Drop> Adjusted<S> {
-    /// A line of so many of the stage's zeros before the stage, for so many items at once. Only memory can be wanting.
+    /// A line of so many of the stage's zeros before the stage, for so many items at once. Fails only if memory runs out.
     pub fn open(
         alloc: Global,
         adjustment: u32,

@@ -20,7 +20,7 @@ impl BitDeinterleaver {
     ghost use Rattle.bit_inter.specs.Layouts.{deinter_layout};
     ghost use Rattle.layer_chain.specs.BitDeinterleaver.{layout_of, held_of};
 
-    /// A deinterleaver whose paths hold zeros. Only memory can be wanting.
+    /// A deinterleaver whose paths hold zeros. Fails only if memory runs out.
     pub fn open(alloc: Global, modulation: Modulation) -> Result<BitDeinterleaver, NoMemory>
         ensures layout { IfOk result (λ s. layout_of s ≡ deinter_layout (cell_bits modulation)) }
         ensures stands { IfOk result (λ s. StandsFor (layout_of s) (held_of s) []) }

@@ -20,7 +20,7 @@ impl BitStage {
     ghost use Rattle.bit_inter.specs.Layouts.{inter_layout};
     ghost use Rattle.layer_chain.specs.BitStage.{layout_of, held_of};
 
-    /// An interleaver whose paths hold zeros. Only memory can be wanting.
+    /// An interleaver whose paths hold zeros. Fails only if memory runs out.
     pub fn open(alloc: Global, modulation: Modulation) -> Result<BitStage, NoMemory>
         ensures layout { IfOk result (λ s. layout_of s ≡ inter_layout (cell_bits modulation)) }
         ensures stands { IfOk result (λ s. StandsFor (layout_of s) (held_of s) []) }

@@ -58,18 +58,22 @@ fn first_cells_of_one_layer(rt: HostRuntime) -> Result<(), Fail> {
 #[test]
 fn held_items(rt: HostRuntime) -> Result<(), Fail> {
     let layer = LayerSetting::new(13, Modulation::Qpsk, Rate::R12, DepthCode::D3).ok_or("refused")?;
-    let coder = LayerCoder::open(rt.alloc(), &layer, Mode::M1)?;
+    let mut coder = LayerCoder::open(rt.alloc(), &layer, Mode::M1)?;
+    let packets = null_packets(rt.alloc(), layer.packets(Mode::M1) as usize)?;
+    let mut out = vec![in rt.alloc(); ZEROS; frame_cells(&layer, Mode::M1)]?;
     let wanted = Held {
         bytes: 30_702,
         bits: 4872,
         cells: 1_088_256,
     };
     assert_eq!(rt; coder.held(), wanted);
+    coder.frame(&packets, &mut out);
+    assert_eq!(rt; coder.held(), wanted, "after a frame");
     Ok(())
 }
 
 /// Passes the coded bits of a frame on, of a layer of one segment with QPSK in mode 1, to the numbers of its cells.
-pub fn pass(
+fn pass(
     bits: &mut Adjusted<BitStage>,
     cells: &mut Adjusted<LayerInter>,
     coded: &[bool],
@@ -147,36 +151,59 @@ fn three_frames(alloc: Global, layer: &LayerSetting, mode: Mode) -> Result<[(i64
     Ok(sums)
 }
 
+/// A layer, and the sums of its first three frames of cells.
+#[derive(Clone, Copy)]
+struct SumRow {
+    mode: Mode,
+    segments: u32,
+    modulation: Modulation,
+    rate: Rate,
+    depth: DepthCode,
+    sums: [(i64, i64); 3],
+}
+
+const SUMS: [SumRow; 4] = [
+    SumRow {
+        mode: Mode::M1,
+        segments: 1,
+        modulation: Modulation::Qam16,
+        rate: Rate::R34,
+        depth: DepthCode::D1,
+        sums: [(36265, 10747), (42045, 29275), (19653, 16466)],
+    },
+    SumRow {
+        mode: Mode::M1,
+        segments: 2,
+        modulation: Modulation::Qam64,
+        rate: Rate::R78,
+        depth: DepthCode::D0,
+        sums: [(51614, 49508), (64901, 23114), (2038, 28771)],
+    },
+    SumRow {
+        mode: Mode::M2,
+        segments: 1,
+        modulation: Modulation::Qpsk,
+        rate: Rate::R56,
+        depth: DepthCode::D1,
+        sums: [(41931, 44885), (26025, 30430), (35830, 49651)],
+    },
+    SumRow {
+        mode: Mode::M3,
+        segments: 1,
+        modulation: Modulation::Qam64,
+        rate: Rate::R23,
+        depth: DepthCode::D1,
+        sums: [(55244, 55244), (13886, 59000), (8639, 54530)],
+    },
+];
+
 #[test]
 fn cells_of_an_independent_program(rt: HostRuntime) -> Result<(), Fail> {
-    let alloc = rt.alloc();
-    let setting = |segments, modulation, rate, depth| LayerSetting::new(
-        segments, modulation, rate, depth,
-    ).ok_or("refused");
-    let rows = [
-        (
-            Mode::M1,
-            setting(1, Modulation::Qam16, Rate::R34, DepthCode::D1)?,
-            [(36265, 10747), (42045, 29275), (19653, 16466)],
-        ),
-        (
-            Mode::M1,
-            setting(2, Modulation::Qam64, Rate::R78, DepthCode::D0)?,
-            [(51614, 49508), (64901, 23114), (2038, 28771)],
-        ),
-        (
-            Mode::M2,
-            setting(1, Modulation::Qpsk, Rate::R56, DepthCode::D1)?,
-            [(41931, 44885), (26025, 30430), (35830, 49651)],
-        ),
-        (
-            Mode::M3,
-            setting(1, Modulation::Qam64, Rate::R23, DepthCode::D1)?,
-            [(55244, 55244), (13886, 59000), (8639, 54530)],
-        ),
-    ];
-    for (mode, layer, sums) in rows {
-        assert!(rt; three_frames(alloc, &layer, mode)? == sums);
+    for row in SUMS.iter() {
+        let layer = LayerSetting::new(row.segments, row.modulation, row.rate, row.depth).ok_or(
+            "refused",
+        )?;
+        assert!(rt; three_frames(rt.alloc(), &layer, row.mode)? == row.sums);
     }
     Ok(())
 }

@@ -13,7 +13,7 @@ use std::alloc::Global;
 use ts_packet::Packet;
 
 /// Coder of one layer up to its coded bits, for one epoch: the outer code, energy dispersal, delay adjustment, byte
-/// interleaving and the inner code (ARIB STD-B31 3.4 to 3.8).
+/// interleaving and the inner code.
 ///
 /// It takes the layer's packets frame by frame, and gives each frame's coded bits at once. All memory is taken at `open`.
 #[derive(Drop)]
@@ -38,7 +38,7 @@ impl CodedLayer {
     ghost use Rattle.layer_chain.specs.CodedBits.{layer_coded_bit};
     ghost use Rattle.layer_chain.specs.CodedLayer.{mode_of, layer_of, packets_of, StandsFor, IsFrame};
 
-    /// A coder of a layer that has seen no packet. Only memory can be wanting.
+    /// A coder of a layer that has seen no packet. Fails only if memory runs out.
     pub fn open(alloc: Global, setting: &LayerSetting, mode: Mode) -> Result<CodedLayer, NoMemory>
         ensures mode { IfOk result (λ s. mode_of s ≡ mode) }
         ensures layer { IfOk result (λ s. layer_of s ≡ setting.now) }

@@ -35,7 +35,7 @@ fn pack(bits: &[bool], bytes: &mut [u8])
     }
 }
 
-/// The inner decoder of one layer for one epoch, and the bytes of its decided bits, of two frames at most (ARIB STD-B31 3.8).
+/// The inner decoder of one layer for one epoch, and the bytes of its decided bits, of two frames at most.
 ///
 /// All memory is taken at `open`.
 #[derive(Drop)]
@@ -64,7 +64,7 @@ impl DecidedBytes {
     ghost use Rattle.layer_chain.specs.DecidedBytes.{rate_of, bits_of_symbol, steps_of_symbol, frame_of, decided_byte, StandsFor};
 
     /// The decoder that has read nothing, for so many read bits a symbol, whole puncturing patterns, and so many bytes a
-    /// frame. Only memory can be wanting.
+    /// frame. Fails only if memory runs out.
     pub fn open(
         alloc: Global,
         rate: Rate,

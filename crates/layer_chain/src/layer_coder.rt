@@ -27,7 +27,7 @@ pub struct Held {
 }
 
 /// Coder of one layer, for one epoch: its coded bits, bit adjustment and interleaving, mapping, and symbol adjustment and
-/// time interleaving (ARIB STD-B31 3.4 to 3.11).
+/// time interleaving.
 ///
 /// It takes the layer's packets frame by frame, and gives each frame's cells at once. All memory is taken at `open`.
 #[derive(Drop)]
@@ -64,7 +64,7 @@ impl LayerCoder {
     ghost use Rattle.layer_chain.specs.CodedLayer.{IsFrame};
     ghost use Rattle.layer_chain.specs.LayerCoder.{mode_of, layer_of, cells_of, packets_of, coded_of, StandsFor};
 
-    /// A coder of a layer that has seen no packet. Only memory can be wanting.
+    /// A coder of a layer that has seen no packet. Fails only if memory runs out.
     pub fn open(alloc: Global, setting: &LayerSetting, mode: Mode) -> Result<LayerCoder, NoMemory>
         ensures mode { IfOk result (λ s. mode_of s ≡ mode) }
         ensures layer { IfOk result (λ s. layer_of s ≡ setting.now) }

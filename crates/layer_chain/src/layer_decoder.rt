@@ -1,25 +1,23 @@
 //! The packets of one layer, from its cells.
 
-ghost use Rattle.std.specs.Prelude.{◌≡◌, ℕ, ◌*◌, ◌%◌, ◌<◌, ◌≤◌, [], length, slice_index_or, vec_len};
+ghost use Rattle.std.specs.Prelude.{◌≡◌, ◌*◌, ◌%◌, ◌≤◌, length, vec_len};
 ghost use Rattle.isdbt_base.specs.Numbers.{packets_per_frame, layer_delay};
-ghost use Rattle.ts_packet.specs.Packets.{null_packet};
 ghost use Rattle.layer_chain.specs.SymbolReader.{mode_of as reader_mode, layer_of as reader_layer, bits_of_symbol as reader_bits};
 ghost use Rattle.layer_chain.specs.DecidedBytes.{rate_of, bits_of_symbol, frame_of, TakesFrame};
 
 use crate::decided_bytes::DecidedBytes;
 use crate::layer_coder::Held;
+use crate::outer_decoder::{put_answers, put_nulls};
 use crate::symbol_reader::SymbolReader;
-use crate::unit_answers::put_answers;
 use crate::units::UNIT;
 use byte_inter::ByteDeinter;
 use cell_map::Cell;
 use delay_line::Stage;
 use isdbt_base::{LayerSetting, Mode, NoMemory, bits_per_cell, depth_of};
 use std::alloc::Global;
-use ts_packet::Packet;
 
 /// Decoder of one layer, for one epoch: time and bit deinterleaving, the inner decoder, byte deinterleaving, energy dispersal
-/// and the outer decoder (ARIB STD-B31 3.4 to 3.11, backwards).
+/// and the outer decoder.
 ///
 /// It takes the layer's cells symbol by symbol and works on each at once, and gives out the packets of a frame after every
 /// 204 symbols: those of the frame before by the layer's delay, and null packets where the epoch has none so far before. All
@@ -51,14 +49,15 @@ pub struct LayerDecoder {
 }
 
 impl LayerDecoder {
-    ghost use Rattle.std.specs.Prelude.{◌≡◌, ℕ, ◌+◌, ◌*◌, ◌/◌, ◌<◌, ◌≤◌, ◌↔◌, [], true, min, length, slice_index_or, IfOk};
+    ghost use Rattle.std.specs.Prelude.{◌≡◌, ℕ, ◌+◌, ◌*◌, ◌/◌, ◌<◌, ◌≤◌, ◌↔◌, true, min, length, IfOk};
     ghost use Rattle.isdbt_base.specs.Numbers.{cell_bits, time_depth, layer_delay, frames_over};
+    ghost use Rattle.ts_packet.specs.Packets.{packet_bytes, piece_or_null};
     ghost use Rattle.layer_chain.specs.Held.{decoder_bytes, decoder_bits, decoder_cells};
     ghost use Rattle.layer_chain.specs.OuterWords.{given_out};
     ghost use Rattle.layer_chain.specs.SymbolReader.{IsSymbol, read_delay};
     ghost use Rattle.layer_chain.specs.LayerDecoder.{mode_of, layer_of, cells_of, packets_of, symbols_of, StandsFor};
 
-    /// A decoder of a layer that has seen no symbol. Only memory can be wanting.
+    /// A decoder of a layer that has seen no symbol. Fails only if memory runs out.
     pub fn open(alloc: Global, setting: &LayerSetting, mode: Mode) -> Result<LayerDecoder, NoMemory>
         ensures mode { IfOk result (λ s. mode_of s ≡ mode) }
         ensures layer { IfOk result (λ s. layer_of s ≡ setting.now) }
@@ -111,12 +110,13 @@ impl LayerDecoder {
         self.symbols += 1;
     }
 
-    /// Gives out the packets of a frame, as many as the layer has in a frame, after just 204 symbols.
-    pub fn take_frame(&mut self, out: &mut [Packet])
-        requires size { length out.old ≡ packets_of self.old }
+    /// Gives out the packets of a frame, as many as the layer has in a frame, 188 bytes each, one behind the other, after just
+    /// 204 symbols.
+    pub fn take_frame(&mut self, out: &mut [u8])
+        requires size { length out.old ≡ packet_bytes * packets_of self.old }
         requires whole { symbols_of self.old ≡ 204 }
         ensures packets { (cell : ℕ → ℕ → ℕ) (frames : ℕ) → StandsFor self.old cell frames
-            → (j : ℕ) → j < packets_of self.old → slice_index_or out.new j [] ≡ given_out (mode_of self.old) (layer_of self.old) cell frames j }
+            → (j : ℕ) → j < packets_of self.old → piece_or_null out.new j ≡ given_out (mode_of self.old) (layer_of self.old) cell frames j }
         ensures state { (cell : ℕ → ℕ → ℕ) (frames : ℕ) → StandsFor self.old cell frames → StandsFor self.new cell (frames + 1) }
         ensures symbols { symbols_of self.new ≡ 0 }
         ensures mode { mode_of self.new ≡ mode_of self.old }
@@ -171,14 +171,4 @@ fn deinterleave(
 {
     deinterleaver.feed(decided.frame(), units);
     decided.take_frame();
-}
-
-/// Writes null packets.
-fn put_nulls(out: &mut [Packet])
-    ensures size { length out.new ≡ length out.old }
-    ensures nulls { (j : ℕ) → j < length out.new → slice_index_or out.new j [] ≡ null_packet }
-{
-    for packet in out.iter_mut() {
-        *packet = Packet::null();
-    }
 }

@@ -1,4 +1,4 @@
-//! One layer of the chain, from its packets to its cells (ARIB STD-B31 3.4 to 3.11).
+//! One layer of the chain, from its packets to its cells (ARIB STD-B31 chapter 3).
 //!
 //! A layer's packets come frame by frame, as many as the layer has in a frame. Of each the unit of 204 bytes is sent: its
 //! codeword without the first byte, with the sequence of energy dispersal added, and the sync byte of the next. The
@@ -19,22 +19,24 @@ mod bit_stage;
 mod cell_bits;
 mod cell_numbers;
 mod coded_layer;
+mod coder_laws;
 mod decided_bytes;
-mod laws;
+mod decoder_laws;
 mod layer_coder;
 mod layer_decoder;
-mod receive_laws;
+mod outer_decoder;
 mod symbol_reader;
-mod unit_answers;
 mod units;
 
 pub use coded_layer::CodedLayer;
-pub use laws::{bit_partner_law, cell_prefix_law, distinct_places_law, prefix_law, read_back_law};
-pub use layer_coder::{Held, LayerCoder};
-pub use layer_decoder::LayerDecoder;
-pub use receive_laws::{
+pub use coder_laws::{
+    bit_partner_law, cell_prefix_law, distinct_places_law, prefix_law, read_back_law,
+};
+pub use decoder_laws::{
     answer_law, clean_words_law, given_packet_law, near_answer_law, near_codeword_law, window_law,
 };
+pub use layer_coder::{Held, LayerCoder};
+pub use layer_decoder::LayerDecoder;
 
 #[cfg(test)]
 mod cell_tests;

@@ -14,7 +14,7 @@ use std::alloc::Global;
 use time_inter::LayerDeinter;
 
 /// Reader of one layer, for one epoch: its cells, symbol by symbol, through time and bit deinterleaving to the bits that are
-/// read at the places of the coded bits (ARIB STD-B31 3.9 to 3.11, backwards). They come late, by the whole frames that time
+/// read at the places of the coded bits. They come late, by the whole frames that time
 /// interleaving takes over both ends and the two symbols of bit interleaving.
 ///
 /// All memory is taken at `open`.
@@ -42,7 +42,7 @@ impl SymbolReader {
     ghost use Rattle.layer_chain.specs.LayerCells.{read_bit};
     ghost use Rattle.layer_chain.specs.SymbolReader.{mode_of, layer_of, cells_of, bits_of_symbol, read_delay, IsSymbol, StandsFor};
 
-    /// A reader of a layer that has seen no symbol. Only memory can be wanting.
+    /// A reader of a layer that has seen no symbol. Fails only if memory runs out.
     pub fn open(alloc: Global, setting: &LayerSetting, mode: Mode) -> Result<SymbolReader, NoMemory>
         ensures mode { IfOk result (λ s. mode_of s ≡ mode) }
         ensures layer { IfOk result (λ s. layer_of s ≡ setting.now) }

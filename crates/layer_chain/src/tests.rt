@@ -94,42 +94,54 @@ fn three_frames(alloc: Global, layer: &LayerSetting, mode: Mode) -> Result<[(u64
     Ok(sums)
 }
 
+/// A layer, and the sums of its first three frames of coded bits.
+#[derive(Clone, Copy)]
+struct SumRow {
+    mode: Mode,
+    segments: u32,
+    modulation: Modulation,
+    rate: Rate,
+    sums: [(u64, u64); 3],
+}
+
+const SUMS: [SumRow; 4] = [
+    SumRow {
+        mode: Mode::M1,
+        segments: 1,
+        modulation: Modulation::Qpsk,
+        rate: Rate::R23,
+        sums: [(7614, 22917), (19462, 39670), (19516, 51162)],
+    },
+    SumRow {
+        mode: Mode::M1,
+        segments: 1,
+        modulation: Modulation::Qam16,
+        rate: Rate::R34,
+        sums: [(6774, 23558), (39056, 20505), (39117, 19104)],
+    },
+    SumRow {
+        mode: Mode::M2,
+        segments: 1,
+        modulation: Modulation::Qpsk,
+        rate: Rate::R56,
+        sums: [(6005, 27442), (39096, 34264), (39029, 44799)],
+    },
+    SumRow {
+        mode: Mode::M1,
+        segments: 2,
+        modulation: Modulation::Qam64,
+        rate: Rate::R78,
+        sums: [(5781, 60671), (117510, 23655), (117732, 43913)],
+    },
+];
+
 #[test]
 fn frames_of_an_independent_program(rt: HostRuntime) -> Result<(), Fail> {
-    let alloc = rt.alloc();
-    let rows = [
-        (
-            Mode::M1,
-            1,
-            Modulation::Qpsk,
-            Rate::R23,
-            [(7614, 22917), (19462, 39670), (19516, 51162)],
-        ),
-        (
-            Mode::M1,
-            1,
-            Modulation::Qam16,
-            Rate::R34,
-            [(6774, 23558), (39056, 20505), (39117, 19104)],
-        ),
-        (
-            Mode::M2,
-            1,
-            Modulation::Qpsk,
-            Rate::R56,
-            [(6005, 27442), (39096, 34264), (39029, 44799)],
-        ),
-        (
-            Mode::M1,
-            2,
-            Modulation::Qam64,
-            Rate::R78,
-            [(5781, 60671), (117510, 23655), (117732, 43913)],
-        ),
-    ];
-    for (mode, segments, modulation, rate, sums) in rows {
-        let layer = LayerSetting::new(segments, modulation, rate, DepthCode::D0).ok_or("refused")?;
-        assert!(rt; three_frames(alloc, &layer, mode)? == sums);
+    for row in SUMS.iter() {
+        let layer = LayerSetting::new(row.segments, row.modulation, row.rate, DepthCode::D0).ok_or(
+            "refused",
+        )?;
+        assert!(rt; three_frames(rt.alloc(), &layer, row.mode)? == row.sums);
     }
     Ok(())
 }

@@ -1,6 +1,6 @@
 //! The units of a frame: the bytes that are sent of its packets, before delay adjustment and interleaving.
 
-ghost use Rattle.std.specs.Prelude.{◌≡◌, ℕ, ◌+◌, ◌*◌, ◌<◌, ◌≤◌, [], ◌++◌, length, take, slice_index, slice_index_or, bit_xor};
+ghost use Rattle.std.specs.Prelude.{◌≡◌, ℕ, ◌+◌, ◌*◌, ◌<◌, [], length, slice_index, slice_index_or, bit_xor};
 ghost use Rattle.gf_rs.specs.Codewords.{codeword_of};
 ghost use Rattle.energy_prbs.specs.Sequence.{sequence_byte};
 ghost use Rattle.energy_prbs.specs.StandsFor.{StandsFor};
@@ -8,27 +8,14 @@ ghost use Rattle.layer_chain.specs.SentBytes.{sent_byte};
 
 use energy_prbs::Prbs;
 use gf_rs::Rs;
-use ts_packet::Packet;
-
-/// Bytes of a unit.
-pub const UNIT: usize = 204;
+use isdbt_base::put;
+use ts_packet::{PACKET_BYTES, Packet, SYNC};
 
 /// Bytes of parity.
 const PARITY: usize = 16;
 
-/// The last byte of a unit: the sync byte of the next packet.
-const SYNC: [u8; 1] = [0x47];
-
-/// Puts bytes at a place, and gives the place behind them.
-pub fn put(out: &mut [u8], at: usize, bytes: &[u8]) -> usize
-    requires { at + length bytes.now ≤ length out.old }
-    ensures end { result ≡ at + length bytes.now }
-    ensures front { take result out.new ≡ take at out.old ++ bytes.now }
-{
-    let end = at + bytes.len();
-    out[at..end].copy_from_slice(bytes);
-    end
-}
+/// Bytes of a unit.
+pub const UNIT: usize = PACKET_BYTES + PARITY;
 
 /// The unit of a packet: its codeword without the first byte, dispersed, and the sync byte.
 fn unit_of(packet: &Packet, prbs: &mut Prbs) -> [u8; UNIT]
@@ -43,7 +30,7 @@ fn unit_of(packet: &Packet, prbs: &mut Prbs) -> [u8; UNIT]
     let mut unit = [0u8; UNIT];
     let at = put(&mut unit, 0, &bytes[1..]);
     let at = put(&mut unit, at, &parity);
-    put(&mut unit, at, &SYNC);
+    put(&mut unit, at, &[SYNC]);
     prbs.disperse(&mut unit);
     unit
 }

@@ -13,5 +13,5 @@ invariant-loop-frame l = record {
   fresh : decoder.symbols_of l.decoder ≡ 0;
   cell_room : vec_len l.cells ≡ 204 * layer_cells l.fn.mode l.layer;
   few : vec_len l.cells ≤ 1018368;
-  packet_room : vec_len l.out ≡ packets_per_frame l.fn.mode l.layer;
+  packet_room : vec_len l.out ≡ 188 * packets_per_frame l.fn.mode l.layer;
 }

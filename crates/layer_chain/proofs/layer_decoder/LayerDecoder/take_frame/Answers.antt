@@ -1,4 +1,4 @@
-use Rattle.std.proofs.Common.{◌≡◌, ℕ, ◌+◌, ◌*◌, ◌≤◌, [], get_or, refl, sym, ap, subst, ◌∙◌, arith}
+use Rattle.std.proofs.Common.{◌≡◌, ℕ, ◌+◌, ◌*◌, ◌/◌, ◌≤◌, [], length, get_or, refl, sym, ap, subst, ◌∙◌, arith}
 use Rattle.std.proofs.lemmas.List.{with_items_is}
 use Rattle.isdbt_base.specs.Numbers.{packets_per_frame, frames_over}
 use Rattle.delay_line.specs.Stages.{StandsFor as StageStandsFor, stage_item}
@@ -6,7 +6,7 @@ use Rattle.byte_inter.specs.Layouts.{deinter_layout}
 use Rattle.layer_chain.specs.Streams.{first_of}
 use Rattle.layer_chain.specs.LayerCells.{read_bit}
 use Rattle.layer_chain.specs.OuterWords.{outer_answer}
-use Rattle.layer_chain.specs.UnitAnswers.{word_in}
+use Rattle.layer_chain.specs.UnitWords.{word_in}
 use Rattle.layer_chain.specs.DecidedBytes as decided
 use Rattle.layer_chain.specs.DecidedBytes.{decided_byte, Taken, TakesFrame, frame_of, rate_of}
 use Rattle.layer_chain.specs.LayerDecoder.{mode_of, layer_of, steps_after, bytes_after, StandsFor}
@@ -34,7 +34,7 @@ pub returns-then-self-clause-packets : goal.returns-then-self-clause-packets
 returns-then-self-clause-packets c = λ cell frames stands j h.
     let s = c.args.self.now in
     let counted = early-count frames (frames_over (mode_of s) (layer_of s).depth) s.frames stands.counted (omega arith) in
-    c.put_nulls.ensures.nulls j (omega arith) ∙ sym (given-early (mode_of s) (layer_of s) cell frames j (omega (arith, counted.0)))
+    c.put_nulls.ensures j ∙ sym (given-early (mode_of s) (layer_of s) cell frames j (omega (arith, counted.0)))
 
 pub returns-then-self-clause-state : goal.returns-then-self-clause-state
 returns-then-self-clause-state c = λ cell frames stands.
@@ -55,7 +55,7 @@ pub returns-then-self-2-clause-packets : goal.returns-then-self-2-clause-packets
 returns-then-self-2-clause-packets c = λ cell frames stands j h.
     let s = c.args.self.now in
     let counted = middle-count frames (frames_over (mode_of s) (layer_of s).depth) s.frames stands.counted (omega arith) (omega arith) in
-    c.put_nulls-then-self-2.ensures.nulls j (omega arith) ∙ sym (given-early (mode_of s) (layer_of s) cell frames j (omega (arith, counted.0)))
+    c.put_nulls-then-self-2.ensures j ∙ sym (given-early (mode_of s) (layer_of s) cell frames j (omega (arith, counted.0)))
 
 -- the parts after a frame of decided bytes was taken
 taken_state : (s : LayerDecoder) (t : DecidedBytes) (d units : _) (cell : ℕ → ℕ → ℕ) (frames : ℕ) → StandsFor s cell frames → s.symbols ≡ 204 → frames_over (mode_of s) (layer_of s).depth + 1 ≤ frames
@@ -98,8 +98,9 @@ returns-else-self-2-clause-packets c = λ cell frames stands j h.
     let units = c.deinterleave-else-self-2.new.units in
     let taken = taken_of s c.deinterleave-else-self-2.new.decided c.deinterleave-else-self-2.new.deinterleaver units cell frames stands c.requires.whole (omega (arith, counted.0)) c.deinterleave-else-self-2.ensures.taken in
     let known : c.deref.result.now ≡ units = c.deref.ensures.value ∙ with_items_is s.units units (omega arith) in
-    c.put_answers.ensures j (omega arith)
-    ∙ ap (λ n. outer_answer (word_in n c.deref.result.now j)) c.requires.size
+    let count : length c.deref.result.now / 204 ≡ t = omega (arith, ap length known, s.unit_room, c.deinterleave-else-self-2.auto.units) in
+    c.put_answers.ensures j (omega (arith, count, h))
+    ∙ ap (λ n. outer_answer (word_in n c.deref.result.now j)) count
     ∙ ap (λ xs. outer_answer (word_in t xs j)) known
     ∙ given-units mode l cell frames j units s.some_packets counted.0 h (λ n k.
     taken.units_are n (omega (arith, k, s.same_frame)) ∙ ap (λ r. stage_item (deinter_layout 12 17) (decided_byte r read) (bytes_after mode l frames + n)) (c.deinterleave-else-self-2.ensures.rate ∙ s.same_rate))

@@ -1,5 +1,0 @@
-use Rattle.layer_chain.proofs.ReadBack.{distinct}
-use Rattle.layer_chain.proofs.laws.distinct_places_law.Goals as goal
-
-pub returns : goal.returns
-returns c = distinct c.args.mode c.args.layer

@@ -1,5 +1,0 @@
-use Rattle.layer_chain.proofs.NearAnswers.{given_out-packet}
-use Rattle.layer_chain.proofs.receive_laws.given_packet_law.Goals as goal
-
-pub returns : goal.returns
-returns c = given_out-packet c.args.mode c.args.layer
