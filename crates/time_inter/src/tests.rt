@@ -6,12 +6,86 @@ ghost use Rattle.isdbt_base.specs.Numbers.{carriers};
 use crate::{
     CellPlace, LayerDeinter, LayerInter, TimeDeinter, TimeInter, layer_partner_law, place,
 };
-use delay_line::{Stage, through};
+use delay_line::{Line, Stage, through};
 use isdbt_base::{
     DepthCode, Layer, LayerSetting, Mode, Modulation, Rate, Setting, adjust_of, carriers, depth_of,
 };
 use std::alloc::Global;
+use std::process::Abort;
 use std::test::Fail;
+
+/// One cell of ones among cells of zeros: its carrier, by how many symbols it comes late, and for how many symbols it is
+/// looked for.
+#[derive(Clone, Copy)]
+struct OneCell {
+    carrier: usize,
+    late: usize,
+    symbols: usize,
+}
+
+/// Checks that the cell of this carrier is of ones, and that the others of a symbol are zeros.
+fn expect_only(rt: &impl Abort, given: &[u8], marked: Option<usize>) {
+    for (carrier, bits) in given.iter().enumerate() {
+        let wanted = if marked == Some(carrier) { 63 } else { 0 };
+        assert_eq!(rt; *bits, wanted, "carrier {carrier}, marked {marked:?}");
+    }
+}
+
+/// Sends the cell in the first of these symbols, through the adjustment and then the stage, and checks that it comes late as
+/// stated, and that at every other symbol and carrier a zero comes.
+fn expect_one_cell<S: Stage<Item = u8>, const N: usize>(
+    rt: &impl Abort,
+    adjustment: &mut Line<u8>,
+    stage: &mut S,
+    cell: &OneCell,
+)
+    requires { N ≤ 384 }
+{
+    for symbol in 0..cell.symbols {
+        let mut sent = [0u8; N];
+        assert!(rt; cell.carrier < N);
+        sent[cell.carrier] = if symbol == 0 { 63 } else { 0 };
+        let mut adjusted = [9u8; N];
+        adjustment.feed(&sent, &mut adjusted);
+        let mut given = [9u8; N];
+        assert_eq!(rt; adjusted.len() % stage.paths() as usize, 0);
+        stage.feed(&adjusted, &mut given);
+        let comes = symbol == cell.late;
+        expect_only(rt, &given, if comes { Some(cell.carrier) } else { None });
+    }
+}
+
+#[test]
+fn carrier_twenty_delay(rt: HostRuntime) -> Result<(), Fail> {
+    // 16 * (5 * 20 mod 96) is 64, and 112 symbols are the adjustment.
+    let adjust = adjust_of(Mode::M1, DepthCode::D3);
+    assert_eq!(rt; (depth_of(Mode::M1, DepthCode::D3), adjust), (16, 112));
+    let mut adjustment = Line::open(rt.alloc(), 112 * 96, 0u8)?;
+    let mut inter = TimeInter::<16>::open(rt.alloc(), Mode::M1)?;
+    let cell = OneCell {
+        carrier: 20,
+        late: 176,
+        symbols: 1700,
+    };
+    expect_one_cell::<_, 96>(&rt, &mut adjustment, &mut inter, &cell);
+    Ok(())
+}
+
+#[test]
+fn last_carrier_delay(rt: HostRuntime) -> Result<(), Fail> {
+    // 5 * 383 mod 96 is 91, and 109 symbols are the adjustment.
+    let adjust = adjust_of(Mode::M3, DepthCode::D1);
+    assert_eq!(rt; (depth_of(Mode::M3, DepthCode::D1), adjust), (1, 109));
+    let mut adjustment = Line::open(rt.alloc(), 109 * 384, 0u8)?;
+    let mut inter = TimeInter::<1>::open(rt.alloc(), Mode::M3)?;
+    let cell = OneCell {
+        carrier: 383,
+        late: 200,
+        symbols: 400,
+    };
+    expect_one_cell::<_, 384>(&rt, &mut adjustment, &mut inter, &cell);
+    Ok(())
+}
 
 /// By how many symbols a stage delays each of some carriers.
 fn delays<S: Stage>(stage: &S, carriers: [u32; 3]) -> [Option<u32>; 3] {
@@ -25,13 +99,11 @@ fn delays<S: Stage>(stage: &S, carriers: [u32; 3]) -> [Option<u32>; 3] {
 }
 
 #[test]
-fn carrier_twenty_delay(rt: HostRuntime) -> Result<(), Fail> {
+fn told_delays(rt: HostRuntime) -> Result<(), Fail> {
     let alloc = rt.alloc();
     let inter = TimeInter::<16>::open(alloc, Mode::M1)?;
     assert_eq!(rt; (inter.paths(), inter.delay(), inter.zero()), (96, 1520, 0));
     assert_eq!(rt; delays(&inter, [0, 20, 96]), [Some(0), Some(64), None]);
-    assert_eq!(rt; depth_of(Mode::M1, DepthCode::D3), 16);
-    assert_eq!(rt; adjust_of(Mode::M1, DepthCode::D3) + 64, 176);
     let deinter = TimeDeinter::<16>::open(alloc, Mode::M1)?;
     assert_eq!(rt;
         (deinter.paths(), deinter.delay(), deinter.zero()),
@@ -41,6 +113,8 @@ fn carrier_twenty_delay(rt: HostRuntime) -> Result<(), Fail> {
         delays(&deinter, [0, 20, 96]),
         [Some(1520), Some(1456), None]
     );
+    let inter = TimeInter::<1>::open(alloc, Mode::M3)?;
+    assert_eq!(rt; delays(&inter, [96, 383, 384]), [Some(0), Some(91), None]);
     Ok(())
 }
 
@@ -59,47 +133,54 @@ fn layer_partner_delays(rt: HostRuntime) -> Result<(), Fail> {
     Ok(())
 }
 
-#[test]
-fn last_carrier_delay(rt: HostRuntime) -> Result<(), Fail> {
-    let inter = TimeInter::<1>::open(rt.alloc(), Mode::M3)?;
-    assert_eq!(rt; delays(&inter, [96, 383, 384]), [Some(0), Some(91), None]);
-    assert_eq!(rt; adjust_of(Mode::M3, DepthCode::D1) + 91, 200);
-    Ok(())
-}
-
-/// Where the ones stand that a stage of mode 1 gives for a symbol of ones and 99 of zeros, of the places that are asked for:
-/// symbol and carrier.
-fn ones_at<S: Stage<Item = u8>>(stage: &mut S, places: [(usize, usize); 3]) -> [bool; 3] {
+/// What a stage of mode 1 gives for a symbol of ones and 99 of zeros, carrier by carrier within each symbol.
+fn after_ones<S: Stage<Item = u8>>(rt: &impl Abort, stage: &mut S) -> [u8; 9600] {
     let mut sent = [0u8; 9600];
     for cell in sent.iter_mut().take(96) {
         *cell = 1;
     }
-    let mut given = [0u8; 9600];
-    if stage.paths() == 96 {
-        stage.feed(&sent, &mut given);
-    }
-    places.map(|(symbol, carrier)| given.get(symbol.wrapping_mul(96).wrapping_add(carrier))
-        == Some(&1))
+    let mut given = [9u8; 9600];
+    assert_eq!(rt; stage.paths(), 96);
+    stage.feed(&sent, &mut given);
+    given
 }
 
 #[test]
 fn delay_line_vectors(rt: HostRuntime) -> Result<(), Fail> {
-    let alloc = rt.alloc();
-    let mut inter = TimeInter::<1>::open(alloc, Mode::M1)?;
-    assert_eq!(rt;
-        ones_at(&mut inter, [(0, 0), (5, 1), (0, 1)]),
-        [true, true, false]
-    );
-    let mut deinter = TimeDeinter::<1>::open(alloc, Mode::M1)?;
-    assert_eq!(rt;
-        ones_at(&mut deinter, [(95, 0), (90, 1), (0, 0)]),
-        [true, true, false]
-    );
-    let mut none = TimeInter::<0>::open(alloc, Mode::M1)?;
-    assert_eq!(rt;
-        ones_at(&mut none, [(0, 0), (0, 95), (1, 0)]),
-        [true, true, false]
-    );
+    let mut inter = TimeInter::<1>::open(rt.alloc(), Mode::M1)?;
+    let sent = after_ones(&rt, &mut inter);
+    let mut deinter = TimeDeinter::<1>::open(rt.alloc(), Mode::M1)?;
+    let received = after_ones(&rt, &mut deinter);
+    let mut none = TimeInter::<0>::open(rt.alloc(), Mode::M1)?;
+    let passed = after_ones(&rt, &mut none);
+    for place in 0..9600 {
+        let (symbol, late) = (place / 96, 5 * (place % 96) % 96);
+        assert_eq!(rt; sent[place], (symbol == late) as u8, "place {place}");
+        assert_eq!(rt;
+            received[place],
+            (symbol == 95 - late) as u8,
+            "place {place}"
+        );
+        assert_eq!(rt; passed[place], (symbol == 0) as u8, "place {place}");
+    }
+    Ok(())
+}
+
+#[test]
+fn each_carrier_alone(rt: HostRuntime) -> Result<(), Fail> {
+    let mut unadjusted = Line::open(rt.alloc(), 0, 0u8)?;
+    let mut inter = TimeInter::<1>::open(rt.alloc(), Mode::M1)?;
+    let mut deinter = TimeDeinter::<1>::open(rt.alloc(), Mode::M1)?;
+    for carrier in 0..96usize {
+        let mut cell = OneCell {
+            carrier,
+            late: 5 * carrier % 96,
+            symbols: 200,
+        };
+        expect_one_cell::<_, 96>(&rt, &mut unadjusted, &mut inter, &cell);
+        cell.late = 95 - cell.late;
+        expect_one_cell::<_, 96>(&rt, &mut unadjusted, &mut deinter, &cell);
+    }
     Ok(())
 }
 
