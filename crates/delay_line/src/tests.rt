@@ -3,20 +3,39 @@
 use crate::{Line, LineBank};
 use std::test::Fail;
 
+/// What a line of this delay, filled with zeros, gives for 1 to 5.
+#[derive(Clone, Copy)]
+struct Fed {
+    delay: u32,
+    given: [u8; 5],
+}
+
 #[test]
 fn delay_line_vectors(rt: HostRuntime) -> Result<(), Fail> {
-    let table = [
-        (3, [0, 0, 0, 1, 2]),
-        (0, [1, 2, 3, 4, 5]),
-        (5, [0, 0, 0, 0, 0]),
-        (9, [0, 0, 0, 0, 0]),
+    let rows = [
+        Fed {
+            delay: 3,
+            given: [0, 0, 0, 1, 2],
+        },
+        Fed {
+            delay: 0,
+            given: [1, 2, 3, 4, 5],
+        },
+        Fed {
+            delay: 5,
+            given: [0; 5],
+        },
+        Fed {
+            delay: 9,
+            given: [0; 5],
+        },
     ];
-    for (delay, wanted) in table {
-        let mut line = Line::open(rt.alloc(), delay, 0u8)?;
+    for row in rows {
+        let mut line = Line::open(rt.alloc(), row.delay, 0u8)?;
         let mut given = [9u8; 5];
         line.feed(&[1, 2, 3, 4, 5], &mut given);
-        assert_eq!(rt; given, wanted, "delay {delay}");
-        assert_eq!(rt; line.delay(), delay as usize);
+        assert_eq!(rt; given, row.given, "delay {}", row.delay);
+        assert_eq!(rt; line.delay(), row.delay as usize);
     }
     Ok(())
 }
