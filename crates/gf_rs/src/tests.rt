@@ -2,22 +2,68 @@
 
 use crate::{Gf, Nearest, Rs};
 
+/// Two elements of the field, and their product.
+#[derive(Clone, Copy)]
+struct Product {
+    a: Gf,
+    b: Gf,
+    is: Gf,
+}
+
 /// Worked by hand from x^8 = x^4 + x^3 + x^2 + 1.
+static PRODUCTS: [Product; 9] = [
+    Product {
+        a: Gf(0x80),
+        b: Gf(0x02),
+        is: Gf(0x1D),
+    },
+    Product {
+        a: Gf(0x80),
+        b: Gf(0x04),
+        is: Gf(0x3A),
+    },
+    Product {
+        a: Gf(0x80),
+        b: Gf(0x80),
+        is: Gf(0x13),
+    },
+    Product {
+        a: Gf(0xFF),
+        b: Gf(0x02),
+        is: Gf(0xE3),
+    },
+    Product {
+        a: Gf(0xFF),
+        b: Gf(0xFF),
+        is: Gf(0xE2),
+    },
+    Product {
+        a: Gf(0x03),
+        b: Gf(0x03),
+        is: Gf(0x05),
+    },
+    Product {
+        a: Gf(0xFF),
+        b: Gf(0x00),
+        is: Gf(0x00),
+    },
+    Product {
+        a: Gf(0x00),
+        b: Gf(0xFF),
+        is: Gf(0x00),
+    },
+    Product {
+        a: Gf(0x01),
+        b: Gf(0xA7),
+        is: Gf(0xA7),
+    },
+];
+
 #[test]
 fn products_and_inverses(rt: HostRuntime) {
-    let products = [
-        (0x80, 0x02, 0x1D),
-        (0x80, 0x04, 0x3A),
-        (0x80, 0x80, 0x13),
-        (0xFF, 0x02, 0xE3),
-        (0xFF, 0xFF, 0xE2),
-        (0x03, 0x03, 0x05),
-        (0xFF, 0x00, 0x00),
-        (0x00, 0xFF, 0x00),
-        (0x01, 0xA7, 0xA7),
-    ];
-    for (a, b, product) in products {
-        assert_eq!(rt; Gf(a).mul(Gf(b)), Gf(product), "{a} times {b}");
+    for row in PRODUCTS.iter() {
+        let Product { a, b, is } = *row;
+        assert_eq!(rt; a.mul(b), is, "{a:?} times {b:?}");
     }
     let inverses = [0x01, 0x8E, 0xF4, 0x47, 0xA7, 0x7A, 0xBA, 0xAD, 0x9D];
     for a in 1..10u8 {
