@@ -2,6 +2,7 @@
 
 use crate::{BitDeinter, BitInter};
 use delay_line::{Line, Stage, through};
+use std::process::Abort;
 use std::test::Fail;
 
 #[test]
@@ -47,34 +48,54 @@ fn delays_of_the_bits(rt: HostRuntime) -> Result<(), Fail> {
     Ok(())
 }
 
+/// Coded bits that are set among 800, and the places at which they come.
+#[derive(Clone, Copy)]
+struct SetBits<'a> {
+    coded: &'a [usize],
+    placed: &'a [usize],
+}
+
+/// Sends the coded bits through the adjustment and then the stage, and checks that the set bits come at their places alone.
+fn expect_places<S: Stage<Item = bool>>(
+    rt: &impl Abort,
+    adjustment: &mut Line<bool>,
+    stage: &mut S,
+    bits: &SetBits,
+) {
+    let mut coded = [false; 800];
+    for (place, bit) in coded.iter_mut().enumerate() {
+        *bit = bits.coded.contains(&place);
+    }
+    let mut adjusted = [true; 800];
+    adjustment.feed(&coded, &mut adjusted);
+    let mut placed = [true; 800];
+    assert_eq!(rt; adjusted.len() % stage.paths() as usize, 0);
+    stage.feed(&adjusted, &mut placed);
+    for (place, bit) in placed.iter().enumerate() {
+        assert_eq!(rt; *bit, bits.placed.contains(&place), "place {place}");
+    }
+}
+
 #[test]
 fn bits_behind_the_adjustment(rt: HostRuntime) -> Result<(), Fail> {
     // One segment of mode 1 has 96 cells a symbol. QPSK: coded bit 0 is bit 0 of layer cell 72, coded
     // bit 1 bit 1 of cell 192.
     let mut line = Line::open(rt.alloc(), 144, false)?;
     let mut inter = BitInter::<2>::open(rt.alloc())?;
-    let mut coded = [false; 800];
-    coded[0] = true;
-    coded[1] = true;
-    let mut adjusted = [true; 800];
-    line.feed(&coded, &mut adjusted);
-    let mut placed = [true; 800];
-    inter.feed(&adjusted, &mut placed);
-    for (place, bit) in placed.iter().enumerate() {
-        assert_eq!(rt; *bit, place == 144 || place == 385, "place {place}");
-    }
+    let first_two = SetBits {
+        coded: &[0, 1],
+        placed: &[144, 385],
+    };
+    expect_places(&rt, &mut line, &mut inter, &first_two);
 
     // 16QAM: coded bit 6 is bit 2 of cell 1 + 72 + 80.
     let mut line = Line::open(rt.alloc(), 288, false)?;
     let mut inter = BitInter::<4>::open(rt.alloc())?;
-    coded[0] = false;
-    coded[1] = false;
-    coded[6] = true;
-    line.feed(&coded, &mut adjusted);
-    inter.feed(&adjusted, &mut placed);
-    for (place, bit) in placed.iter().enumerate() {
-        assert_eq!(rt; *bit, place == 614, "place {place}");
-    }
+    let sixth = SetBits {
+        coded: &[6],
+        placed: &[614],
+    };
+    expect_places(&rt, &mut line, &mut inter, &sixth);
     Ok(())
 }
 
