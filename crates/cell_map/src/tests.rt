@@ -4,23 +4,80 @@ use crate::{Cell, bits_of, cell_of};
 use isdbt_base::{Modulation, bits_per_cell};
 use std::test::Fail;
 
-// Levels with their axis bits, as numbers of a byte, in no order that the search rests on.
-static LEVELS_OF_QPSK: [(i8, u8); 2] = [(-1, 0b1), (1, 0b0)];
+/// A level with its axis bits, as a number of a byte.
+#[derive(Clone, Copy)]
+struct Axis {
+    level: i8,
+    bits: u8,
+}
 
-static LEVELS_OF_16QAM: [(i8, u8); 4] = [(-3, 0b10), (1, 0b01), (3, 0b00), (-1, 0b11)];
-
-static LEVELS_OF_64QAM: [(i8, u8); 8] = [
-    (-7, 0b100),
-    (-5, 0b101),
-    (-1, 0b110),
-    (-3, 0b111),
-    (7, 0b000),
-    (5, 0b001),
-    (1, 0b010),
-    (3, 0b011),
+// In no order that the search rests on.
+static LEVELS_OF_QPSK: [Axis; 2] = [
+    Axis {
+        level: -1,
+        bits: 0b1,
+    },
+    Axis {
+        level: 1,
+        bits: 0b0,
+    },
 ];
 
-fn levels_of(modulation: Modulation) -> &'static [(i8, u8)] {
+static LEVELS_OF_16QAM: [Axis; 4] = [
+    Axis {
+        level: -3,
+        bits: 0b10,
+    },
+    Axis {
+        level: 1,
+        bits: 0b01,
+    },
+    Axis {
+        level: 3,
+        bits: 0b00,
+    },
+    Axis {
+        level: -1,
+        bits: 0b11,
+    },
+];
+
+static LEVELS_OF_64QAM: [Axis; 8] = [
+    Axis {
+        level: -7,
+        bits: 0b100,
+    },
+    Axis {
+        level: -5,
+        bits: 0b101,
+    },
+    Axis {
+        level: -1,
+        bits: 0b110,
+    },
+    Axis {
+        level: -3,
+        bits: 0b111,
+    },
+    Axis {
+        level: 7,
+        bits: 0b000,
+    },
+    Axis {
+        level: 5,
+        bits: 0b001,
+    },
+    Axis {
+        level: 1,
+        bits: 0b010,
+    },
+    Axis {
+        level: 3,
+        bits: 0b011,
+    },
+];
+
+fn levels_of(modulation: Modulation) -> &'static [Axis] {
     match modulation {
         Modulation::Qpsk => &LEVELS_OF_QPSK,
         Modulation::Qam16 => &LEVELS_OF_16QAM,
@@ -38,43 +95,101 @@ fn joined(i: u8, q: u8) -> u8 {
 }
 
 /// The axis bits of the nearest of these levels, and of two as near of the higher.
-fn searched(levels: &[(i8, u8)], value: i8) -> u8 {
-    let mut taken = (0, 0);
+fn searched(levels: &[Axis], value: i8) -> u8 {
+    let mut nearest = Axis { level: 0, bits: 0 };
     let mut least = u8::MAX;
-    for &(level, bits) in levels {
-        let distance = value.abs_diff(level);
-        if distance < least || distance == least && level > taken.0 {
-            taken = (level, bits);
+    for axis in levels {
+        let distance = value.abs_diff(axis.level);
+        if distance < least || distance == least && axis.level > nearest.level {
+            nearest = *axis;
             least = distance;
         }
     }
-    taken.1
+    nearest.bits
 }
+
+/// Bits of a cell, and the cell that they are sent as or read from.
+#[derive(Clone, Copy)]
+struct Mapped {
+    modulation: Modulation,
+    bits: u8,
+    cell: Cell,
+}
+
+static SENT: [Mapped; 5] = [
+    Mapped {
+        modulation: Modulation::Qam64,
+        bits: 0b000000,
+        cell: Cell { i: 7, q: 7 },
+    },
+    Mapped {
+        modulation: Modulation::Qam64,
+        bits: 0b100000,
+        cell: Cell { i: -7, q: 7 },
+    },
+    Mapped {
+        modulation: Modulation::Qam64,
+        bits: 0b010011,
+        cell: Cell { i: 5, q: -5 },
+    },
+    Mapped {
+        modulation: Modulation::Qam16,
+        bits: 0b0110,
+        cell: Cell { i: 1, q: -3 },
+    },
+    Mapped {
+        modulation: Modulation::Qpsk,
+        bits: 0b01,
+        cell: Cell { i: 1, q: -1 },
+    },
+];
+
+static READ: [Mapped; 7] = [
+    Mapped {
+        modulation: Modulation::Qam64,
+        bits: 0b001100,
+        cell: Cell { i: 0, q: 0 },
+    },
+    Mapped {
+        modulation: Modulation::Qam64,
+        bits: 0b100000,
+        cell: Cell { i: -128, q: 127 },
+    },
+    Mapped {
+        modulation: Modulation::Qam64,
+        bits: 0b010001,
+        cell: Cell { i: 6, q: -6 },
+    },
+    Mapped {
+        modulation: Modulation::Qam16,
+        bits: 0b0011,
+        cell: Cell { i: 0, q: 0 },
+    },
+    Mapped {
+        modulation: Modulation::Qam16,
+        bits: 0b0101,
+        cell: Cell { i: 2, q: -2 },
+    },
+    Mapped {
+        modulation: Modulation::Qpsk,
+        bits: 0b00,
+        cell: Cell { i: 0, q: 0 },
+    },
+    Mapped {
+        modulation: Modulation::Qpsk,
+        bits: 0b01,
+        cell: Cell { i: 127, q: -1 },
+    },
+];
 
 #[test]
 fn levels_and_ties(rt: HostRuntime) -> Result<(), Fail> {
-    let sent = [
-        (Modulation::Qam64, 0b000000, (7, 7)),
-        (Modulation::Qam64, 0b100000, (-7, 7)),
-        (Modulation::Qam64, 0b010011, (5, -5)),
-        (Modulation::Qam16, 0b0110, (1, -3)),
-        (Modulation::Qpsk, 0b01, (1, -1)),
-    ];
-    for (modulation, bits, (i, q)) in sent {
-        assert!(rt; bits < 1 << bits_per_cell(modulation));
-        assert_eq!(rt; cell_of(modulation, bits), Cell { i, q });
+    for row in SENT.iter() {
+        assert!(rt; row.bits < 1 << bits_per_cell(row.modulation));
+        assert_eq!(rt; cell_of(row.modulation, row.bits), row.cell);
     }
-    let read = [
-        (Modulation::Qam64, (0, 0), 0b001100),
-        (Modulation::Qam64, (-128, 127), 0b100000),
-        (Modulation::Qam64, (6, -6), 0b010001),
-        (Modulation::Qam16, (0, 0), 0b0011),
-        (Modulation::Qam16, (2, -2), 0b0101),
-        (Modulation::Qpsk, (0, 0), 0b00),
-        (Modulation::Qpsk, (127, -1), 0b01),
-    ];
-    for (modulation, (i, q), bits) in read {
-        assert_eq!(rt; bits_of(modulation, Cell { i, q }), bits);
+    for row in READ.iter() {
+        assert_eq!(rt; bits_of(row.modulation, row.cell), row.bits);
     }
     Ok(())
 }
