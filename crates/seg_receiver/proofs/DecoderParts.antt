@@ -1,5 +1,5 @@
 -- A symbol and a frame of a layer that may be unused.
-use Rattle.std.proofs.Common.{◌≡◌, ℕ, ◌+◌, ◌*◌, ◌/◌, ◌%◌, ◌<◌, Option, Some, None, List, [], length, get_or, ap, sym, subst, ◌∙◌, arith}
+use Rattle.std.proofs.Common.{◌≡◌, ℕ, ◌+◌, ◌*◌, ◌/◌, ◌%◌, ◌<◌, Option, Some, None, List, ap, sym, subst, ◌∙◌, arith}
 use Rattle.std.specs.Option.{option_map}
 use Rattle.std.proofs.lemmas.Option.{same_Some}
 use Rattle.isdbt_base.specs.declared.kinds.Mode.{Mode}
@@ -43,25 +43,23 @@ part-symbol mode (Some l) n (Some s) (Some t) cells cell start first h fits take
     takes.state p h stands (subst (λ y. IsSymbol y.modulation p (204 * h + symbols_of s) cells) (sym k) (subst (λ y. IsSymbol l.modulation p (204 * h + y) cells) (sym m) (is_symbol mode l cell start first h n cells less are)))
 
 -- packets of a layer as its decoder gives them
-abbrev Given : (ℕ → ℕ → ℕ) → ℕ → List (List ℕ) → Mode → LayerParameters → Type 0
-Given bits h packets mode l = (j : ℕ) → j < packets_per_frame mode l → get_or packets j [] ≡ given_out mode l bits h j
+abbrev Given : (ℕ → ℕ → ℕ) → ℕ → List ℕ → Mode → LayerParameters → Type 0
+Given bits h bytes mode l = (j : ℕ) → j < packets_per_frame mode l → piece_or_null bytes j ≡ given_out mode l bits h j
 
-pub part-packets : (mode : Mode) (o : Option LayerParameters) (n : ℕ) (s t : Option LayerDecoder) (packets : List (List ℕ)) (bytes : List ℕ) (cell : FrameCells) (start first h : ℕ) →
-    IsDecoderOf mode o n s → GivesIfUsed s t packets → length packets ≡ number_of (packets_per_frame mode) o → ((j : ℕ) → j < length packets → piece_or_null bytes j ≡ get_or packets j [])
-    → DecoderStandsFor mode o s cell start first h → ArePacketsOf mode o cell start first h bytes
-part-packets mode None n s t packets bytes cell start first h fits gives size laid stands = tt
-part-packets mode (Some l) n None t packets bytes cell start first h fits gives size laid stands = absurd stands
-part-packets mode (Some l) n (Some s) None packets bytes cell start first h fits gives size laid stands = absurd gives
-part-packets mode (Some l) n (Some s) (Some t) packets bytes cell start first h fits gives size laid stands =
+pub part-packets : (mode : Mode) (o : Option LayerParameters) (n : ℕ) (s t : Option LayerDecoder) (bytes : List ℕ) (cell : FrameCells) (start first h : ℕ) →
+    IsDecoderOf mode o n s → GivesIfUsed s t bytes → DecoderStandsFor mode o s cell start first h → ArePacketsOf mode o cell start first h bytes
+part-packets mode None n s t bytes cell start first h fits gives stands = tt
+part-packets mode (Some l) n None t bytes cell start first h fits gives stands = absurd stands
+part-packets mode (Some l) n (Some s) None bytes cell start first h fits gives stands = absurd gives
+part-packets mode (Some l) n (Some s) (Some t) bytes cell start first h fits gives stands =
     let m = same_Some (mode_of s) mode fits.same_mode in
     let k = same_Some (layer_of s) l fits.same_layer in
     let p = place_bits mode l cell start first in
-    let given : Given p h packets mode l = subst (λ y. Given p h packets y l) m (subst (λ y. Given p h packets (mode_of s) y) k (gives.given p h stands)) in
-    λ j less. laid j (omega (arith, size, less)) ∙ given j less
+    subst (λ y. Given p h bytes y l) m (subst (λ y. Given p h bytes (mode_of s) y) k (gives.given p h stands))
 
-pub part-frame : (mode : Mode) (o : Option LayerParameters) (s t : Option LayerDecoder) (packets : List (List ℕ)) (cell : FrameCells) (start first h : ℕ) →
-    GivesIfUsed s t packets → DecoderStandsFor mode o s cell start first h → DecoderStandsFor mode o t cell start first (h + 1)
-part-frame mode None s t packets cell start first h gives stands = tt
-part-frame mode (Some l) None t packets cell start first h gives stands = absurd stands
-part-frame mode (Some l) (Some s) None packets cell start first h gives stands = absurd gives
-part-frame mode (Some l) (Some s) (Some t) packets cell start first h gives stands = gives.state (place_bits mode l cell start first) h stands
+pub part-frame : (mode : Mode) (o : Option LayerParameters) (s t : Option LayerDecoder) (bytes : List ℕ) (cell : FrameCells) (start first h : ℕ) →
+    GivesIfUsed s t bytes → DecoderStandsFor mode o s cell start first h → DecoderStandsFor mode o t cell start first (h + 1)
+part-frame mode None s t bytes cell start first h gives stands = tt
+part-frame mode (Some l) None t bytes cell start first h gives stands = absurd stands
+part-frame mode (Some l) (Some s) None bytes cell start first h gives stands = absurd gives
+part-frame mode (Some l) (Some s) (Some t) bytes cell start first h gives stands = gives.state (place_bits mode l cell start first) h stands

@@ -9,7 +9,6 @@ pub mod FoundFrames
 pub mod FrameParts
 pub mod GoodFrames
 pub mod InputDelivered
-pub mod LaidPackets
 pub mod MultiplexedBytes
 pub mod NearDelivered
 pub mod NearOutcome

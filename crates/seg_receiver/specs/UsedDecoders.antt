@@ -1,5 +1,5 @@
 -- The decoder of a layer that may be unused.
-use Rattle.std.specs.Prelude.{◌≡◌, ℕ, ◌+◌, ◌*◌, ◌/◌, ◌%◌, ◌<◌, Option, Some, None, List, [], length, slice_get, slice_index_or}
+use Rattle.std.specs.Prelude.{◌≡◌, ℕ, ◌+◌, ◌*◌, ◌/◌, ◌%◌, ◌<◌, Option, Some, None, List, length, slice_get}
 use Rattle.std.specs.Option.{option_map}
 use Rattle.isdbt_base.specs.declared.kinds.Mode.{Mode}
 use Rattle.isdbt_base.specs.LayerParameters.{LayerParameters}
@@ -45,9 +45,9 @@ HasSymbolLeft None = Unit {0}
 HasSymbolLeft (Some s) = symbols_of s < 204
 
 -- there is room for the packets of a frame, whose symbols have all been seen
-abbrev pub HasRoom : Option LayerDecoder → List (List ℕ) → Type 0
-HasRoom None packets = Unit {0}
-HasRoom (Some s) packets = length packets ≡ packets_of s
+abbrev pub HasRoom : Option LayerDecoder → List ℕ → Type 0
+HasRoom None bytes = Unit {0}
+HasRoom (Some s) bytes = length bytes ≡ 188 * packets_of s
 
 abbrev pub HasFrame : Option LayerDecoder → Type 0
 HasFrame None = Unit {0}
@@ -69,17 +69,17 @@ TakesIfUsed (Some s) cells None = ⊥
 TakesIfUsed (Some s) cells (Some t) = TakesSymbol s cells t
 
 -- a decoder that gives out a frame of packets becomes another
-pub record GivesFrame (s t : LayerDecoder) (packets : List (List ℕ)) : Type 0 where
+pub record GivesFrame (s t : LayerDecoder) (bytes : List ℕ) : Type 0 where
   pub given : (cell : ℕ → ℕ → ℕ) (frames : ℕ) → layer.StandsFor s cell frames → (j : ℕ) → j < packets_of s
-      → slice_index_or packets j [] ≡ given_out (mode_of s) (layer_of s) cell frames j
+      → piece_or_null bytes j ≡ given_out (mode_of s) (layer_of s) cell frames j
   pub state : (cell : ℕ → ℕ → ℕ) (frames : ℕ) → layer.StandsFor s cell frames → layer.StandsFor t cell (frames + 1)
   pub symbols : symbols_of t ≡ 0
   pub same_mode : mode_of t ≡ mode_of s
   pub same_layer : layer_of t ≡ layer_of s
 
 -- so does one that may be absent
-abbrev pub GivesIfUsed : Option LayerDecoder → Option LayerDecoder → List (List ℕ) → Type 0
-GivesIfUsed None None packets = Unit {0}
-GivesIfUsed None (Some t) packets = ⊥
-GivesIfUsed (Some s) None packets = ⊥
-GivesIfUsed (Some s) (Some t) packets = GivesFrame s t packets
+abbrev pub GivesIfUsed : Option LayerDecoder → Option LayerDecoder → List ℕ → Type 0
+GivesIfUsed None None bytes = Unit {0}
+GivesIfUsed None (Some t) bytes = ⊥
+GivesIfUsed (Some s) None bytes = ⊥
+GivesIfUsed (Some s) (Some t) bytes = GivesFrame s t bytes

@@ -6,15 +6,14 @@ ghost use Rattle.isdbt_base.specs.Numbers.{packets_per_frame};
 ghost use Rattle.seg_receiver.specs.CellStream.{FrameCells};
 ghost use Rattle.seg_receiver.specs.UsedDecoders.{IsDecoderOf, DecoderStandsFor, HasCells, HasSymbolLeft, HasRoom, HasFrame, TakesIfUsed, GivesIfUsed};
 
-use crate::packet_bytes::put_packets;
 use cell_map::Cell;
-use isdbt_base::{LayerSetting, Mode, NoMemory};
+use isdbt_base::{LayerSetting, Mode, NoMemory, packets_of};
 use layer_chain::LayerDecoder;
 use std::alloc::Global;
-use ts_packet::Packet;
+use ts_packet::PACKET_BYTES;
 
-/// Decoder of a layer for one epoch, with room for a frame's packets and their bytes, or nothing where the layer is
-/// unused: it has no cells and no packets then.
+/// Decoder of a layer for one epoch, with room for the bytes of a frame's packets, or nothing where the layer is unused: it
+/// has no cells and no packets then.
 #[derive(Drop)]
 pub struct DecoderPart {
     mode: Mode,
@@ -22,12 +21,9 @@ pub struct DecoderPart {
     decoder: Option<LayerDecoder>,
     /// The symbols since the last frame was given out.
     symbols: u32,
-    /// The packets of a frame.
-    packets: Vec<Packet>,
-    /// Their bytes, 188 for each.
+    /// The packets of a frame, 188 bytes each.
     bytes: Vec<u8>,
     ghost fits: { IsDecoderOf mode layer symbols decoder },
-    ghost packet_room: { vec_len packets ≡ number_of (packets_per_frame mode) layer },
     ghost byte_room: { vec_len bytes ≡ 188 * number_of (packets_per_frame mode) layer },
 }
 
@@ -49,15 +45,12 @@ impl DecoderPart {
         ensures state { IfOk result (λ p. (cell : FrameCells) (start first : ℕ) → PartStandsFor p cell start first 0) }
     {
         let decoder = open_used(alloc, &layer, mode)?;
-        let count = packet_count(&layer, mode) as usize;
-        let packets = vec![in alloc; Packet::null(); count]?;
-        let bytes = vec![in alloc; 0; 188 * count]?;
+        let bytes = vec![in alloc; 0; PACKET_BYTES * packets_of(&layer, mode) as usize]?;
         Ok(DecoderPart {
             mode,
             layer,
             decoder,
             symbols: 0,
-            packets,
             bytes,
         })
     }
@@ -85,8 +78,7 @@ impl DecoderPart {
         ensures mode { self.new.mode ≡ self.old.mode }
         ensures layer { self.new.layer ≡ self.old.layer }
     {
-        take_packets(&mut self.decoder, &mut self.packets);
-        put_packets(&self.packets, &mut self.bytes);
+        take_packets(&mut self.decoder, &mut self.bytes);
         self.symbols = 0;
     }
 
@@ -96,17 +88,6 @@ impl DecoderPart {
         ensures whole { length result.now % 188 ≡ 0 }
     {
         &self.bytes
-    }
-}
-
-/// Packets of a layer in a frame.
-fn packet_count(layer: &Option<LayerSetting>, mode: Mode) -> u32
-    ensures value { result ≡ number_of (packets_per_frame mode) layer.now }
-    ensures most { result ≤ 3276 }
-{
-    match layer {
-        Some(used) => used.packets(mode),
-        None => 0,
     }
 }
 
@@ -141,13 +122,13 @@ fn take_symbol(decoder: &mut Option<LayerDecoder>, cells: &[Cell])
 }
 
 /// Takes the packets of a frame, where the layer is used.
-fn take_packets(decoder: &mut Option<LayerDecoder>, packets: &mut [Packet])
-    requires size { HasRoom decoder.old packets.old }
+fn take_packets(decoder: &mut Option<LayerDecoder>, bytes: &mut [u8])
+    requires size { HasRoom decoder.old bytes.old }
     requires whole { HasFrame decoder.old }
-    ensures { GivesIfUsed decoder.old decoder.new packets.new }
+    ensures { GivesIfUsed decoder.old decoder.new bytes.new }
 {
     match decoder {
-        Some(used) => used.take_frame(packets),
+        Some(used) => used.take_frame(bytes),
         None => {}
     }
 }

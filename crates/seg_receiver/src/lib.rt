@@ -24,7 +24,6 @@ mod frames;
 mod laws;
 mod layer_cells;
 mod outcome_laws;
-mod packet_bytes;
 mod receiver;
 mod receiving;
 mod symbols;
