@@ -19,6 +19,7 @@ pub fn read_numbers(modulation: Modulation, cells: &[Cell], numbers: &mut [u8])
 }
 
 /// Writes the bits of a number, the highest first.
+#[inline(always)]
 fn put_number(number: u8, bits: &mut [bool])
     requires { length bits.old ≤ 6 }
     ensures { (r : ℕ) → r < length bits.new → slice_index_or bits.new r false ≡ bit_of_number (length bits.new) number r }
@@ -30,7 +31,8 @@ fn put_number(number: u8, bits: &mut [bool])
 }
 
 /// Writes the bits of numbers of so many bits each, the highest first.
-pub fn put_bits(numbers: &[u8], width: usize, bits: &mut [bool])
+#[inline(always)]
+fn put_wide(numbers: &[u8], width: usize, bits: &mut [bool])
     requires least { 1 ≤ width }
     requires most { width ≤ 6 }
     requires room { length bits.old ≡ width * length numbers.now }
@@ -39,5 +41,20 @@ pub fn put_bits(numbers: &[u8], width: usize, bits: &mut [bool])
     for cell in 0..numbers.len() {
         let start = width * cell;
         put_number(numbers[cell], &mut bits[start..start + width]);
+    }
+}
+
+/// The same, with code of its own for the cells of each modulation.
+pub fn put_bits(numbers: &[u8], width: usize, bits: &mut [bool])
+    requires least { 1 ≤ width }
+    requires most { width ≤ 6 }
+    requires room { length bits.old ≡ width * length numbers.now }
+    ensures { (e r : ℕ) → e < length numbers.now → r < width → slice_index_or bits.new (width * e + r) false ≡ bit_of_number width (slice_index_or numbers.now e 0) r }
+{
+    match width {
+        2 => put_wide(numbers, 2, bits),
+        4 => put_wide(numbers, 4, bits),
+        6 => put_wide(numbers, 6, bits),
+        _ => put_wide(numbers, width, bits),
     }
 }

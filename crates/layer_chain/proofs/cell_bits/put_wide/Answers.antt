@@ -3,7 +3,7 @@ use Rattle.std.proofs.Math.Nat.{mul-add, mul-le-mul_left}
 use Rattle.std.proofs.lemmas.Slice.{take-put_mid}
 use Rattle.layer_chain.specs.LayerCells.{bit_of_number}
 use Rattle.layer_chain.proofs.CellNumbers.{bits-more}
-use Rattle.layer_chain.proofs.cell_bits.put_bits.Goals as goal
+use Rattle.layer_chain.proofs.cell_bits.put_wide.Goals as goal
 
 pub loop-cell-preserved : goal.loop-cell-preserved
 loop-cell-preserved c =
