@@ -2,22 +2,29 @@
 use Rattle.std.proofs.Common.{◌≡◌, ℕ, ◌+◌, ◌-◌, ◌++◌, get_or, ◌<◌, ◌≤◌, ◌^◌, inl, inr, Bool, true, false, cond, List, length, map, refl, ◌∙◌, ap, sym, arith, w8, length-append, Contains, All}
 use Rattle.std.specs.Prelude.{nat_lt}
 use Rattle.std.proofs.lemmas.Bool.{cases_lt, ltb-true, ltb-false}
-use Rattle.std.proofs.lemmas.List.{get_or_append_left, get_or-append-add, get_or_default}
-use Rattle.std.proofs.lemmas.Simd.{tops_compared, get_or-sel_l, get_or-zip2, length-zip2, length-sel_l, pick_l-range_with_len, get_or-chunk, length-chunk, pick_l_whole}
+use Rattle.std.proofs.lemmas.List.{get_or_append_left, get_or_default}
+use Rattle.std.proofs.lemmas.Simd.{tops_compared, get_or-sel_l, get_or-zip2, length-zip2, length-sel_l, pick_l-range_with_len, get_or-chunk, length-chunk}
 use Rattle.std.specs.List.{range_with_len}
 use lib.Lanes.{pick_l, zip2, top, sel_l}
 
--- the lanes of as where xs is below ys, else those of bs
+-- the lanes of as where a test of the lanes of xs and ys holds, else those of bs
+abbrev pub selected : (ℕ → ℕ → Bool) → List ℕ → List ℕ → List ℕ → List ℕ → List ℕ
+selected t xs ys as' bs = sel_l (map (top 7) (zip2 (λ a b. cond (t a b) (2 ^ 8 - 1) 0) xs ys)) as' bs
+
+pub selected_at : (t : ℕ → ℕ → Bool) (xs ys as' bs : List ℕ) (m i : ℕ) → length xs ≡ m → length ys ≡ m → length as' ≡ m → length bs ≡ m → i < m →
+    get_or (selected t xs ys as' bs) i 0 ≡ cond (t (get_or xs i 0) (get_or ys i 0)) (get_or as' i 0) (get_or bs i 0)
+selected_at t xs ys as' bs m i ex ey ea eb h =
+    let long = length-zip2 t xs ys (ex ∙ sym ey) in
+    ap (λ ms. get_or (sel_l ms as' bs) i 0) (tops_compared w8 t xs ys)
+    ∙ get_or-sel_l (zip2 t xs ys) as' bs i 0 (omega arith) (omega arith) (omega arith)
+    ∙ ap (λ b. cond b (get_or as' i 0) (get_or bs i 0)) (get_or-zip2 t xs ys i 0 0 false (omega arith) (omega arith))
+
 abbrev pub chosen : List ℕ → List ℕ → List ℕ → List ℕ → List ℕ
-chosen xs ys as' bs = sel_l (map (top 7) (zip2 (λ a b. cond (nat_lt a b) (2 ^ 8 - 1) 0) xs ys)) as' bs
+chosen = selected nat_lt
 
 pub chosen_at : (xs ys as' bs : List ℕ) (m i : ℕ) → length xs ≡ m → length ys ≡ m → length as' ≡ m → length bs ≡ m → i < m →
     get_or (chosen xs ys as' bs) i 0 ≡ cond (nat_lt (get_or xs i 0) (get_or ys i 0)) (get_or as' i 0) (get_or bs i 0)
-chosen_at xs ys as' bs m i ex ey ea eb h =
-    let long = length-zip2 nat_lt xs ys (ex ∙ sym ey) in
-    ap (λ ms. get_or (sel_l ms as' bs) i 0) (tops_compared w8 nat_lt xs ys)
-    ∙ get_or-sel_l (zip2 nat_lt xs ys) as' bs i 0 (omega arith) (omega arith) (omega arith)
-    ∙ ap (λ b. cond b (get_or as' i 0) (get_or bs i 0)) (get_or-zip2 nat_lt xs ys i 0 0 false (omega arith) (omega arith))
+chosen_at xs ys as' bs m i = selected_at nat_lt xs ys as' bs m i
 
 pub length-chosen : (xs ys as' bs : List ℕ) (m : ℕ) → length xs ≡ m → length ys ≡ m → length as' ≡ m → length bs ≡ m → length (chosen xs ys as' bs) ≡ m
 length-chosen xs ys as' bs m ex ey ea eb =
@@ -100,15 +107,3 @@ cond_swap a b = by_case a b (nat_lt a b) (nat_lt b a) refl refl
     by_case a b true false e f = refl
     by_case a b false true e f = refl
     by_case a b false false e f = let l : b ≤ a = ltb-false a b e in let k : a ≤ b = ltb-false b a f in omega arith
-
-whole_is : (xs ys : List ℕ) → length xs ≡ 32 → length ys ≡ 32 → pick_l 0 (xs ++ ys) (range_with_len 0 64) ≡ xs ++ ys
-whole_is xs ys ex ey = pick_l_whole 0 (xs ++ ys) 64 (omega (arith, length-append xs ys))
-
-pub joined_low : (xs ys : List ℕ) (i : ℕ) → length xs ≡ 32 → length ys ≡ 32 → i < 32 → get_or (pick_l 0 (xs ++ ys) (range_with_len 0 64)) i 0 ≡ get_or xs i 0
-joined_low xs ys i ex ey h = ap (λ l. get_or l i 0) (whole_is xs ys ex ey) ∙ get_or_append_left xs ys 0 i (omega arith)
-
-pub joined_high : (xs ys : List ℕ) (i : ℕ) → length xs ≡ 32 → length ys ≡ 32 → i < 32 → get_or (pick_l 0 (xs ++ ys) (range_with_len 0 64)) (32 + i) 0 ≡ get_or ys i 0
-joined_high xs ys i ex ey h =
-    ap (λ l. get_or l (32 + i) 0) (whole_is xs ys ex ey)
-    ∙ ap (λ n. get_or (xs ++ ys) (n + i) 0) (sym ex)
-    ∙ get_or-append-add xs ys i 0

@@ -4,8 +4,9 @@ pub mod LaneLaws
 pub mod HalfLaws
 pub mod StateLaws
 pub mod PackLaws
-pub mod HoldsLaws
-pub mod MoveLaws
+pub mod PathLaws
+pub mod BlockLaws
+pub mod ChosenLaws
 pub mod StepLaws
 pub mod StartLaws
 pub mod UniqueLaws

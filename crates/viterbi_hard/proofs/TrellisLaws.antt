@@ -1,14 +1,14 @@
 -- Survivors and path metrics: the step law, and how far metrics spread.
-use Rattle.std.proofs.Common.{◌≡◌, ℕ, ◌+◌, ◌*◌, ◌∷◌, ◌<◌, ◌≤◌, ◌⊎◌, inl, inr, Bool, true, false, cond, List, [], length, refl, ◌∙◌, ap, arith, zero, suc}
+use Rattle.std.proofs.Common.{◌≡◌, ℕ, ◌+◌, ◌*◌, ◌∷◌, ◌<◌, ◌≤◌, ◌⊎◌, inl, inr, Bool, true, false, cond, List, [], length, refl, sym, ◌∙◌, ap, arith, zero, suc}
 use Rattle.std.specs.Prelude.{nat_lt}
-use Rattle.std.proofs.lemmas.Bool.{ltb-true, ltb-false}
+use Rattle.std.proofs.lemmas.Bool.{cases_order, ltb-true, ltb-false}
 use Rattle.std.proofs.Math.Nat.{eq-or-lt_of_le}
 use Rattle.viterbi_hard.specs.declared.received.Decision.{Decision}
 use Rattle.viterbi_hard.specs.declared.received.Decision.TheVariants.{Punctured, Zero, One}
 use Rattle.viterbi_hard.specs.declared.received.Received.{Received}
 use Rattle.isdbt_base.specs.Bits.{◌⊕◌}
 use Rattle.viterbi_hard.specs.LeastPath.{no_later}
-use Rattle.viterbi_hard.specs.Trellis.{TrellisState, branch_metric, path_metric, survivor, previous, path_of, start_metric, differs}
+use Rattle.viterbi_hard.specs.Trellis.{IsChosen, Precedes, TrellisState, branch_metric, path_metric, survivor, previous, path_of, start_metric, differs}
 
 pub differs_le : (m : Decision) (b : Bool) → differs m b ≤ 1
 differs_le Punctured b = omega arith
@@ -159,16 +159,6 @@ spread-law rs s s' le =
       spread-late 6 rs s s' (survivor rs s') le (agree_six s s'),
     )
 
--- paths of two states, the first at least as good
-abbrev pub Precedes : List Received → TrellisState → List Bool → TrellisState → List Bool → Type 0
-Precedes rs s p s' t =
-    (path_metric rs s p < path_metric rs s' t)
-    ⊎ ((path_metric rs s p ≡ path_metric rs s' t) × (no_later (path_of s p) (path_of s' t) ≡ true))
-
--- the state's survivor is the best of all survivors
-abbrev pub IsChosen : List Received → TrellisState → Type 0
-IsChosen rs s = (s' : TrellisState) → Precedes rs s (survivor rs s) s' (survivor rs s')
-
 precedes_then : (rs : List Received) (s : TrellisState) (p : List Bool) (s' : TrellisState) (q t : List Bool) → Precedes rs s p s' q → Beats (path_metric rs s') q t → Precedes rs s p s' t
 precedes_then rs s p s' q t h k =
     elim h [
@@ -182,3 +172,28 @@ precedes_then rs s p s' q t h k =
 -- the best of the survivors is the least of all paths
 pub chosen_least : (rs : List Received) (s : TrellisState) → IsChosen rs s → (s' : TrellisState) (t : List Bool) → length t ≡ length rs → Precedes rs s (survivor rs s) s' t
 chosen_least rs s h s' t e = precedes_then rs s _ s' (survivor rs s') t (h s') (step-law rs s' t e)
+
+pub precedes_trans : (rs : List Received) (s : TrellisState) (p : List Bool) (s' : TrellisState) (q : List Bool) (s2 : TrellisState) (t : List Bool) → Precedes rs s p s' q → Precedes rs s' q s2 t → Precedes rs s p s2 t
+precedes_trans rs s p s' q s2 t h k =
+    elim h [
+      | inl l ↦ elim k [ inl m ↦ inl (omega arith) | inr v ↦ inl (omega (arith, v.0)) ]
+      | inr w ↦ elim k [
+        | inl m ↦ inl (omega (arith, w.0))
+        | inr v ↦ inr (w.0 ∙ v.0, no_later_trans (path_of s p) (path_of s' q) (path_of s2 t) w.1 v.1)
+      ]
+    ]
+
+no_later_total : (p q : List Bool) → (no_later p q ≡ true) ⊎ (no_later q p ≡ true)
+no_later_total [] q = inl refl
+no_later_total (x ∷ p) [] = inr refl
+no_later_total (false ∷ p) (false ∷ q) = no_later_total p q
+no_later_total (true ∷ p) (true ∷ q) = no_later_total p q
+no_later_total (false ∷ p) (true ∷ q) = inl refl
+no_later_total (true ∷ p) (false ∷ q) = inr refl
+
+pub precedes_total : (rs : List Received) (s : TrellisState) (p : List Bool) (s' : TrellisState) (q : List Bool) → Precedes rs s p s' q ⊎ Precedes rs s' q s p
+precedes_total rs s p s' q =
+    elim (cases_order (path_metric rs s p) (path_metric rs s' q)) [
+      | inl e ↦ elim (no_later_total (path_of s p) (path_of s' q)) [ inl l ↦ inl (inr (e, l)) | inr l ↦ inr (inr (sym e, l)) ]
+      | inr d ↦ elim d [ inl l ↦ inl (inl l) | inr l ↦ inr (inl l) ]
+    ]

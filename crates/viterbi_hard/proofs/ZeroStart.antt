@@ -5,11 +5,8 @@ use Rattle.std.proofs.lemmas.List.{length-take-le, take-append-drop, get_or_appe
 use Rattle.std.proofs.lemmas.Bool.{cases_lt}
 use Rattle.viterbi_hard.specs.declared.received.Received.{Received}
 use Rattle.viterbi_hard.specs.LeastPath.{no_later, IsLeast}
-use Rattle.viterbi_hard.specs.Trellis.{TrellisState, branch_metric, path_metric, survivor, previous, path_of, start_metric, any_of, bit, list_metric}
-use Rattle.viterbi_hard.proofs.TrellisLaws.{branch_metric_le, IsChosen, chosen_least, length-survivor}
-
-abbrev pub newest_state : List Bool → TrellisState
-newest_state l = record { u1 = bit l 0; u2 = bit l 1; u3 = bit l 2; u4 = bit l 3; u5 = bit l 4; u6 = bit l 5 }
+use Rattle.viterbi_hard.specs.Trellis.{IsChosen, TrellisState, branch_metric, newest_state, path_metric, survivor, previous, path_of, start_metric, any_of, bit, list_metric}
+use Rattle.viterbi_hard.proofs.TrellisLaws.{branch_metric_le, chosen_least, length-survivor}
 
 abbrev pub zeros : List Bool
 zeros = false ∷ false ∷ false ∷ false ∷ false ∷ false ∷ []

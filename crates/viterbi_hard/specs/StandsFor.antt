@@ -1,5 +1,5 @@
 -- What a decoder keeps of the bits that it read.
-use Rattle.std.specs.Prelude.{◌≡◌, ℕ, ◌+◌, ◌-◌, ◌*◌, ◌/◌, ◌%◌, ◌<◌, ◌≤◌, min, Bool, false, List, length, slice_index_or}
+use Rattle.std.specs.Prelude.{◌≡◌, ℕ, ◌+◌, ◌-◌, ◌*◌, ◌/◌, ◌%◌, ◌<◌, ◌≤◌, drop, min, Bool, false, List, length, slice_index_or}
 use Rattle.isdbt_base.specs.declared.kinds.Rate.{Rate}
 use Rattle.isdbt_base.specs.Numbers.{rate_steps, rate_bits}
 use Rattle.conv_punct.specs.CodedBits.{coded_len}
@@ -7,16 +7,34 @@ use Rattle.viterbi_hard.specs.declared.received.Received.{Received}
 use Rattle.viterbi_hard.specs.declared.decoder.Decoder.{Decoder}
 use Rattle.viterbi_hard.specs.LeastPath.{decided_bit}
 use Rattle.viterbi_hard.specs.Steps.{received_steps}
-use Rattle.viterbi_hard.specs.States.{Holds}
+use Rattle.viterbi_hard.specs.Trellis.{IsChosen}
+use Rattle.viterbi_hard.specs.States.{AreTags, Holds, IsLabel, path_at, state_of}
+use Rattle.viterbi_hard.specs.Blocks.{Traced}
 
 -- the rate that a decoder is for
 abbrev pub rate_of : Decoder → Rate
 rate_of decoder = decoder.rate
 
--- the lanes are those that the steps rs leave, the newest first
+-- the lanes and the blocks are those that the steps rs leave, the newest first
 pub record Keeps (decoder : Decoder) (rs : List Received) : Type 0 where
   pub young : decoder.age < 8
-  pub holds : Holds decoder.metrics decoder.tails decoder.survivors.paths decoder.age rs
+  pub few : decoder.high < 8
+  pub holds : Holds decoder.metrics (decoder.age + 8 * decoder.high) rs
+  pub tags : AreTags decoder.tags decoder.age rs
+  pub traced : Traced decoder.traceback (drop decoder.age rs)
+
+-- so are they at the end of a block, before the block is put to the others
+pub record EndsBlock (decoder : Decoder) (rs : List Received) : Type 0 where
+  pub few : decoder.high < 8
+  pub holds : Holds decoder.metrics (8 + 8 * decoder.high) rs
+  pub tags : AreTags decoder.tags 8 rs
+  pub traced : Traced decoder.traceback (drop 8 rs)
+
+-- a label of the oldest block on the best of the survivors
+pub record HasLabel (label age : ℕ) (rs : List Received) : Type 0 where
+  pub lane : ℕ
+  pub chosen : IsChosen rs (state_of lane)
+  pub is : IsLabel label (drop (age + 120) (path_at rs lane))
 
 -- so is the count of steps
 pub record Stands (decoder : Decoder) (rs : List Received) : Type 0 where

@@ -1,10 +1,10 @@
 -- Paths through the trellis: states, branch and path metrics, survivors. Lists have the newest step or bit first.
-use Rattle.std.specs.Prelude.{◌≡◌, ℕ, ◌+◌, Bool, true, false, cond, List, [], ◌∷◌, length, get_or, nat_lt}
+use Rattle.std.specs.Prelude.{◌≡◌, ℕ, ◌+◌, ◌<◌, ◌⊎◌, Bool, true, false, cond, List, [], ◌∷◌, length, get_or, nat_lt}
 use Rattle.isdbt_base.specs.Bits.{◌⊕◌}
 use Rattle.viterbi_hard.specs.declared.received.Decision.{Decision}
 use Rattle.viterbi_hard.specs.declared.received.Decision.TheVariants.{Punctured, Zero, One}
 use Rattle.viterbi_hard.specs.declared.received.Received.{Received}
-use Rattle.viterbi_hard.specs.LeastPath.{IsLeast}
+use Rattle.viterbi_hard.specs.LeastPath.{IsLeast, no_later}
 
 -- the bit that came i steps before the newest
 abbrev pub bit : List Bool → ℕ → Bool
@@ -37,6 +37,10 @@ pub record TrellisState : Type 0 where
   pub u5 : Bool
   pub u6 : Bool
 
+-- the state of the six newest bits of a list
+abbrev pub newest_state : List Bool → TrellisState
+newest_state l = record { u1 = bit l 0; u2 = bit l 1; u3 = bit l 2; u4 = bit l 3; u5 = bit l 4; u6 = bit l 5 }
+
 -- the path that ends in a state, from its older bits
 abbrev pub path_of : TrellisState → List Bool → List Bool
 path_of s t = s.u1 ∷ s.u2 ∷ s.u3 ∷ s.u4 ∷ s.u5 ∷ s.u6 ∷ t
@@ -66,6 +70,16 @@ survivor (r ∷ rs) s =
     let p = survivor rs (previous s false) in
     let q = survivor rs (previous s true) in
     cond (nat_lt (path_metric (r ∷ rs) s (true ∷ q)) (path_metric (r ∷ rs) s (false ∷ p))) (true ∷ q) (false ∷ p)
+
+-- paths of two states, the first at least as good
+abbrev pub Precedes : List Received → TrellisState → List Bool → TrellisState → List Bool → Type 0
+Precedes rs s p s' t =
+    (path_metric rs s p < path_metric rs s' t)
+    ⊎ ((path_metric rs s p ≡ path_metric rs s' t) × (no_later (path_of s p) (path_of s' t) ≡ true))
+
+-- the state's survivor is the best of all survivors
+abbrev pub IsChosen : List Received → TrellisState → Type 0
+IsChosen rs s = (s' : TrellisState) → Precedes rs s (survivor rs s) s' (survivor rs s')
 
 -- the metric of a whole list of bits, with zeros before it
 abbrev pub list_metric : List Received → List Bool → ℕ

@@ -5,9 +5,11 @@ ghost use Rattle.isdbt_base.specs.Numbers.{rate_steps, rate_bits};
 ghost use Rattle.viterbi_hard.specs.LeastPath.{decided_bit};
 ghost use Rattle.viterbi_hard.specs.Trellis.{IsDecided};
 
-use crate::lanes::{add_compare_select, first_equal, least_of_all, lowered};
+use crate::blocks::Blocks;
+use crate::lanes::{add_compare_select, lowered, marked};
+use crate::least::{first_least, least_of_all};
+use crate::maps::OWN_LANES;
 use crate::received::{Received, received_step, used};
-use crate::survivors::Survivors;
 use isdbt_base::{Rate, rate_pair};
 use std::simd::prelude::*;
 
@@ -24,17 +26,19 @@ pub struct Decoder {
     rate: Rate,
     /// The steps so far, at most `WAIT`.
     steps: u8,
-    /// Lane n: the path metric of state n's survivor, less a number that all lanes share.
+    /// Lane n: the path metric of the survivor of lane n's state, less a number that all lanes share.
     metrics: u8x64,
-    /// Lane n: of state n's survivor the eight newest bits behind the state's six, the newest highest.
-    tails: u8x64,
-    survivors: Survivors,
-    /// The steps since the survivors moved.
+    /// Lane n: where that survivor was at the last boundary, and the first two bits behind it.
+    tags: u8x64,
+    /// The steps since the last boundary.
     age: u8,
+    /// The blocks since the metrics were lowered.
+    high: u8,
+    traceback: Blocks,
 }
 
 impl Decoder {
-    ghost use Rattle.viterbi_hard.specs.StandsFor.{FeedsTo, GoesOn, IsPlace, Keeps, StandsFor, rate_of, steps_in};
+    ghost use Rattle.viterbi_hard.specs.StandsFor.{EndsBlock, FeedsTo, GoesOn, HasLabel, IsPlace, Keeps, StandsFor, rate_of, steps_in};
 
     /// The decoder that read nothing: zero bits stand before the first input.
     pub fn start(rate: Rate) -> Decoder
@@ -47,16 +51,74 @@ impl Decoder {
             rate,
             steps: 0,
             metrics: u8x64::from_array(metrics),
-            tails: u8x64::splat(0),
-            survivors: Survivors::start(),
+            tags: u8x64::from_array(OWN_LANES),
             age: 0,
+            high: 0,
+            traceback: Blocks::start(),
         }
     }
 
+    /// The end of a block. The metrics stay small: two of them differ by at most 28, and a step adds at most 2. So every eight
+    /// blocks the least of them is taken off them all, and a byte never overflows.
+    #[inline(always)]
+    fn end_block(&mut self)
+        ensures keeps { (rs : List Received) → EndsBlock self.old rs → Keeps self.new rs }
+        ensures rate { self.new.rate ≡ self.old.rate }
+        ensures steps { self.new.steps ≡ self.old.steps }
+    {
+        let tags = self.tags;
+        self.traceback.push(tags);
+        self.tags = u8x64::from_array(OWN_LANES);
+        self.age = 0;
+        if self.high < 7 {
+            self.high += 1;
+        } else {
+            let least = least_of_all(self.metrics);
+            self.metrics = lowered(self.metrics, least);
+            self.high = 0;
+        }
+    }
+
+    /// Goes one step on.
+    #[inline(always)]
+    fn advance(&mut self, received: Received)
+        ensures keeps { (rs : List Received) → Keeps self.old rs → Keeps self.new (received ∷ rs) }
+        ensures rate { self.new.rate ≡ self.old.rate }
+        ensures steps { self.new.steps ≡ self.old.steps }
+    {
+        let (metrics, tags) = add_compare_select(self.metrics, self.tags, received);
+        self.metrics = metrics;
+        self.tags = marked(tags, self.age);
+        if self.age < 7 {
+            self.age += 1;
+        } else {
+            self.end_block();
+        }
+    }
+
+    /// The label of the block that holds the decided bit, sixteen blocks before the one in work: where it is not known for all
+    /// survivors, that of the least path.
+    #[inline(always)]
+    fn oldest_label(&self) -> u8
+        ensures { (rs : List Received) → Keeps self.now rs → HasLabel result self.now.age rs }
+    {
+        if self.traceback.known > 0 {
+            self.traceback.known_label()
+        } else {
+            let tags = self.tags.to_array();
+            self.traceback.label_from(tags[first_least(self.metrics)])
+        }
+    }
+
+    /// The bit 127 steps before the newest, of the least path.
+    #[inline(always)]
+    fn oldest_bit(&self) -> bool
+        ensures { (rs : List Received) → Keeps self.now rs → 128 ≤ length rs → IsDecided rs result }
+    {
+        (self.oldest_label() >> (7 - self.age % 8)) % 2 == 1
+    }
+
     /// One step; the bit is the decided one where 127 steps came before.
-    ///
-    /// The metrics stay small: two of them differ by at most 28, and a step adds at most 2. So every eight steps, when the
-    /// survivors move, the least of them is taken off them all, and a byte never overflows.
     #[inline(always)]
     fn step(&mut self, received: Received) -> bool
         ensures keeps { (rs : List Received) → Keeps self.old rs → Keeps self.new (received ∷ rs) }
@@ -64,22 +126,8 @@ impl Decoder {
         ensures rate { self.new.rate ≡ self.old.rate }
         ensures steps { self.new.steps ≡ self.old.steps }
     {
-        let (metrics, tails) = add_compare_select(self.metrics, self.tails, received);
-        let age = self.age.min(7) + 1;
-        let least = least_of_all(metrics);
-        let best = first_equal(metrics, least);
-        let all_tails = tails.to_array();
-        let bit = self.survivors.oldest_bit(best, all_tails[best], age);
-        self.tails = tails;
-        if age == 8 {
-            self.metrics = lowered(metrics, least);
-            self.survivors.advance(&all_tails);
-            self.age = 0;
-        } else {
-            self.metrics = metrics;
-            self.age = age;
-        }
-        bit
+        self.advance(received);
+        self.oldest_bit()
     }
 
     /// Feeds the bits of one puncturing pattern, which begin at a place, and puts what is decided behind the first `decided`

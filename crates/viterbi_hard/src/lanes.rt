@@ -1,71 +1,97 @@
-//! Vectors of a byte for each trellis state: lane n is of state n, whose six bits are those of n, the newest highest.
+//! Vectors of a byte for each trellis state. Lane n is of the state whose six bits are those of n, the newest lowest.
 //!
-//! A step into state n leaves the state `2 * (n mod 32)` or the one above it: the newest five bits before are the older five
-//! of n, and the oldest bit before is 0 in the even state and 1 in the odd. So states n and n + 32 have the same two states
-//! before: of the new lanes the low 32, whose newest bit is 0, and the high 32, whose newest bit is 1, are both made of the
-//! even lanes and of the odd lanes.
+//! A step into lane n leaves lane n / 2, where the oldest bit before is 0 (the even state), or lane 32 + n / 2, where it is 1
+//! (the odd state). So lanes 2 * i and 2 * i + 1, whose newest bits are 0 and 1, are both made of lane i of the low half and
+//! lane i of the high half, and the new halves are woven into one another.
 //!
 //! X and Y both have the step's own bit and the bit six steps before. To turn both of these turns neither output: so the
-//! branch into n from its odd state costs what the branch into n + 32, or n - 32, costs from its even state. One vector of
-//! branch metrics, those from the even states, serves both.
+//! branch into lane 2 * i + 1 from its odd state costs what the branch into lane 2 * i costs from its even state, and the
+//! other way round. Two vectors of 32 branch metrics serve all.
 
-ghost use Rattle.std.specs.Prelude.{◌≡◌, ℕ, ◌+◌, ◌-◌, ◌*◌, ◌/◌, ◌<◌, ◌≤◌, ◌++◌, true, false, cond, nat_lt, slice_index, Contains, All};
-ghost use Rattle.viterbi_hard.specs.States.{AreLow, branch_metric_at, next_metric, next_tail, place_of, x_metric, y_metric};
+ghost use Rattle.std.specs.Prelude.{◌≡◌, ℕ, ◌+◌, ◌-◌, ◌*◌, ◌%◌, ◌<◌, ◌≤◌, true, false, cond, nat_lt, slice_index, All};
+ghost use Rattle.viterbi_hard.specs.States.{AreLow, branch_metric_at, next_metric, next_tag, place_of, row_of};
 
 use crate::received::{Decision, Received};
 use std::simd::prelude::*;
 
-/// The lanes of even states.
-#[inline(always)]
-fn evens(v: u8x64) -> u8x32
-    ensures { (i : ℕ) → i < 32 → slice_index result i ≡ slice_index v (2 * i) }
-{
-    v.extract::<0, 32>().deinterleave(v.extract::<32, 32>()).0
-}
-
-/// The lanes of odd states.
-#[inline(always)]
-fn odds(v: u8x64) -> u8x32
-    ensures { (i : ℕ) → i < 32 → slice_index result i ≡ slice_index v (2 * i + 1) }
-{
-    v.extract::<0, 32>().deinterleave(v.extract::<32, 32>()).1
-}
-
-/// What X of the step into each state costs from its even state: where it was punctured, where 0 was read, where 1.
-static LANES_X: [[u8; 64]; 3] = [
+/// What the step into lane 2 * i costs from its even state, in a row for what was read: in the place of X nothing, 0 or 1,
+/// times three, and in that of Y.
+static EVEN_COSTS: [[u8; 32]; 9] = [
     [
         0, 0, 0, 0, 0, 0, 0, 0, 0, 0, 0, 0, 0, 0, 0, 0, 0, 0, 0, 0, 0, 0, 0, 0, 0, 0, 0, 0, 0, 0,
-        0, 0, 0, 0, 0, 0, 0, 0, 0, 0, 0, 0, 0, 0, 0, 0, 0, 0, 0, 0, 0, 0, 0, 0, 0, 0, 0, 0, 0, 0,
-        0, 0, 0, 0,
+        0, 0,
     ],
     [
-        0, 0, 0, 0, 1, 1, 1, 1, 1, 1, 1, 1, 0, 0, 0, 0, 1, 1, 1, 1, 0, 0, 0, 0, 0, 0, 0, 0, 1, 1,
-        1, 1, 1, 1, 1, 1, 0, 0, 0, 0, 0, 0, 0, 0, 1, 1, 1, 1, 0, 0, 0, 0, 1, 1, 1, 1, 1, 1, 1, 1,
-        0, 0, 0, 0,
+        0, 0, 1, 1, 1, 1, 0, 0, 0, 0, 1, 1, 1, 1, 0, 0, 1, 1, 0, 0, 0, 0, 1, 1, 1, 1, 0, 0, 0, 0,
+        1, 1,
     ],
     [
-        1, 1, 1, 1, 0, 0, 0, 0, 0, 0, 0, 0, 1, 1, 1, 1, 0, 0, 0, 0, 1, 1, 1, 1, 1, 1, 1, 1, 0, 0,
-        0, 0, 0, 0, 0, 0, 1, 1, 1, 1, 1, 1, 1, 1, 0, 0, 0, 0, 1, 1, 1, 1, 0, 0, 0, 0, 0, 0, 0, 0,
-        1, 1, 1, 1,
+        1, 1, 0, 0, 0, 0, 1, 1, 1, 1, 0, 0, 0, 0, 1, 1, 0, 0, 1, 1, 1, 1, 0, 0, 0, 0, 1, 1, 1, 1,
+        0, 0,
+    ],
+    [
+        0, 1, 1, 0, 1, 0, 0, 1, 0, 1, 1, 0, 1, 0, 0, 1, 0, 1, 1, 0, 1, 0, 0, 1, 0, 1, 1, 0, 1, 0,
+        0, 1,
+    ],
+    [
+        0, 1, 2, 1, 2, 1, 0, 1, 0, 1, 2, 1, 2, 1, 0, 1, 1, 2, 1, 0, 1, 0, 1, 2, 1, 2, 1, 0, 1, 0,
+        1, 2,
+    ],
+    [
+        1, 2, 1, 0, 1, 0, 1, 2, 1, 2, 1, 0, 1, 0, 1, 2, 0, 1, 2, 1, 2, 1, 0, 1, 0, 1, 2, 1, 2, 1,
+        0, 1,
+    ],
+    [
+        1, 0, 0, 1, 0, 1, 1, 0, 1, 0, 0, 1, 0, 1, 1, 0, 1, 0, 0, 1, 0, 1, 1, 0, 1, 0, 0, 1, 0, 1,
+        1, 0,
+    ],
+    [
+        1, 0, 1, 2, 1, 2, 1, 0, 1, 0, 1, 2, 1, 2, 1, 0, 2, 1, 0, 1, 0, 1, 2, 1, 2, 1, 0, 1, 0, 1,
+        2, 1,
+    ],
+    [
+        2, 1, 0, 1, 0, 1, 2, 1, 2, 1, 0, 1, 0, 1, 2, 1, 1, 0, 1, 2, 1, 2, 1, 0, 1, 0, 1, 2, 1, 2,
+        1, 0,
     ],
 ];
 
-/// The same of Y.
-static LANES_Y: [[u8; 64]; 3] = [
+/// The same from its odd state.
+static ODD_COSTS: [[u8; 32]; 9] = [
     [
         0, 0, 0, 0, 0, 0, 0, 0, 0, 0, 0, 0, 0, 0, 0, 0, 0, 0, 0, 0, 0, 0, 0, 0, 0, 0, 0, 0, 0, 0,
-        0, 0, 0, 0, 0, 0, 0, 0, 0, 0, 0, 0, 0, 0, 0, 0, 0, 0, 0, 0, 0, 0, 0, 0, 0, 0, 0, 0, 0, 0,
-        0, 0, 0, 0,
+        0, 0,
     ],
     [
-        0, 1, 0, 1, 1, 0, 1, 0, 1, 0, 1, 0, 0, 1, 0, 1, 0, 1, 0, 1, 1, 0, 1, 0, 1, 0, 1, 0, 0, 1,
-        0, 1, 1, 0, 1, 0, 0, 1, 0, 1, 0, 1, 0, 1, 1, 0, 1, 0, 1, 0, 1, 0, 0, 1, 0, 1, 0, 1, 0, 1,
-        1, 0, 1, 0,
+        1, 1, 0, 0, 0, 0, 1, 1, 1, 1, 0, 0, 0, 0, 1, 1, 0, 0, 1, 1, 1, 1, 0, 0, 0, 0, 1, 1, 1, 1,
+        0, 0,
     ],
     [
-        1, 0, 1, 0, 0, 1, 0, 1, 0, 1, 0, 1, 1, 0, 1, 0, 1, 0, 1, 0, 0, 1, 0, 1, 0, 1, 0, 1, 1, 0,
-        1, 0, 0, 1, 0, 1, 1, 0, 1, 0, 1, 0, 1, 0, 0, 1, 0, 1, 0, 1, 0, 1, 1, 0, 1, 0, 1, 0, 1, 0,
-        0, 1, 0, 1,
+        0, 0, 1, 1, 1, 1, 0, 0, 0, 0, 1, 1, 1, 1, 0, 0, 1, 1, 0, 0, 0, 0, 1, 1, 1, 1, 0, 0, 0, 0,
+        1, 1,
+    ],
+    [
+        1, 0, 0, 1, 0, 1, 1, 0, 1, 0, 0, 1, 0, 1, 1, 0, 1, 0, 0, 1, 0, 1, 1, 0, 1, 0, 0, 1, 0, 1,
+        1, 0,
+    ],
+    [
+        2, 1, 0, 1, 0, 1, 2, 1, 2, 1, 0, 1, 0, 1, 2, 1, 1, 0, 1, 2, 1, 2, 1, 0, 1, 0, 1, 2, 1, 2,
+        1, 0,
+    ],
+    [
+        1, 0, 1, 2, 1, 2, 1, 0, 1, 0, 1, 2, 1, 2, 1, 0, 2, 1, 0, 1, 0, 1, 2, 1, 2, 1, 0, 1, 0, 1,
+        2, 1,
+    ],
+    [
+        0, 1, 1, 0, 1, 0, 0, 1, 0, 1, 1, 0, 1, 0, 0, 1, 0, 1, 1, 0, 1, 0, 0, 1, 0, 1, 1, 0, 1, 0,
+        0, 1,
+    ],
+    [
+        1, 2, 1, 0, 1, 0, 1, 2, 1, 2, 1, 0, 1, 0, 1, 2, 0, 1, 2, 1, 2, 1, 0, 1, 0, 1, 2, 1, 2, 1,
+        0, 1,
+    ],
+    [
+        0, 1, 2, 1, 2, 1, 0, 1, 0, 1, 2, 1, 2, 1, 0, 1, 1, 2, 1, 0, 1, 0, 1, 2, 1, 2, 1, 0, 1, 0,
+        1, 2,
     ],
 ];
 
@@ -82,43 +108,37 @@ fn place(decision: Decision) -> usize
     }
 }
 
+/// The row of what was read of a step.
 #[inline(always)]
-fn x_lanes(decision: Decision) -> u8x64
-    ensures { (n : ℕ) → n < 64 → slice_index result n ≡ x_metric decision n }
+fn row(received: Received) -> usize
+    ensures row { result ≡ row_of received }
+    ensures within { result < 9 }
 {
-    u8x64::from_array(LANES_X[place(decision)])
+    3 * place(received.x) + place(received.y)
 }
 
+/// The branch metrics into the lanes 2 * i from their even states, and into the lanes 2 * i + 1 from their odd states.
 #[inline(always)]
-fn y_lanes(decision: Decision) -> u8x64
-    ensures { (n : ℕ) → n < 64 → slice_index result n ≡ y_metric decision n }
+fn even_costs(received: Received) -> u8x32
+    ensures { (i : ℕ) → i < 32 → slice_index result i ≡ branch_metric_at received (2 * i) false }
 {
-    u8x64::from_array(LANES_Y[place(decision)])
+    u8x32::from_array(EVEN_COSTS[row(received)])
 }
 
-/// Two vectors lane by lane.
+/// The branch metrics into the lanes 2 * i from their odd states, and into the lanes 2 * i + 1 from their even states.
 #[inline(always)]
-fn sum_lanes(a: u8x64, b: u8x64) -> u8x64
-    requires { (n : ℕ) → n < 64 → slice_index a n + slice_index b n < 256 }
-    ensures { (n : ℕ) → n < 64 → slice_index result n ≡ slice_index a n + slice_index b n }
+fn odd_costs(received: Received) -> u8x32
+    ensures { (i : ℕ) → i < 32 → slice_index result i ≡ branch_metric_at received (2 * i) true }
 {
-    a + b
+    u8x32::from_array(ODD_COSTS[row(received)])
 }
 
-/// Two vectors of 32 lanes, each lane that does not overflow.
+/// Two vectors lane by lane, each lane that does not overflow.
 #[inline(always)]
-fn half_sum(a: u8x32, b: u8x32) -> u8x32
+fn sum(a: u8x32, b: u8x32) -> u8x32
     ensures { (n : ℕ) → n < 32 → slice_index a n + slice_index b n < 256 → slice_index result n ≡ slice_index a n + slice_index b n }
 {
     a + b
-}
-
-/// The branch metric into each state from its even state.
-#[inline(always)]
-fn branch_metrics(received: Received) -> u8x64
-    ensures { (n : ℕ) → n < 64 → slice_index result n ≡ branch_metric_at received n false }
-{
-    sum_lanes(x_lanes(received.x), y_lanes(received.y))
 }
 
 /// The lesser of two metrics: that of the survivor.
@@ -129,15 +149,15 @@ fn surviving_metrics(even: u8x32, odd: u8x32) -> u8x32
     even.simd_min(odd)
 }
 
-/// The tail of the survivor: from the odd state only where that costs less, so on equal metrics the older bit is 0.
+/// The tag of the survivor: that of the odd state only where this costs less, so on equal metrics the older bit is 0.
 #[inline(always)]
-fn surviving_tails(even: u8x32, odd: u8x32, even_tail: u8x32, odd_tail: u8x32) -> u8x32
-    ensures { (i : ℕ) → i < 32 → slice_index result i ≡ cond (nat_lt (slice_index odd i) (slice_index even i)) (slice_index odd_tail i) (slice_index even_tail i) }
+fn surviving_tags(even: u8x32, odd: u8x32, even_tags: u8x32, odd_tags: u8x32) -> u8x32
+    ensures { (i : ℕ) → i < 32 → slice_index result i ≡ cond (nat_lt (slice_index odd i) (slice_index even i)) (slice_index odd_tags i) (slice_index even_tags i) }
 {
-    odd.simd_lt(even).select(odd_tail, even_tail)
+    odd.simd_lt(even).select(odd_tags, even_tags)
 }
 
-/// The lanes of states whose newest bit is 0.
+/// The lanes of even states before a step.
 #[inline(always)]
 fn low_half(v: u8x64) -> u8x32
     ensures { (i : ℕ) → i < 32 → slice_index result i ≡ slice_index v i }
@@ -145,7 +165,7 @@ fn low_half(v: u8x64) -> u8x32
     v.extract::<0, 32>()
 }
 
-/// The lanes of states whose newest bit is 1.
+/// The lanes of odd states before a step.
 #[inline(always)]
 fn high_half(v: u8x64) -> u8x32
     ensures { (i : ℕ) → i < 32 → slice_index result i ≡ slice_index v (32 + i) }
@@ -160,30 +180,60 @@ const ORDER: [usize; 64] = [
     50, 51, 52, 53, 54, 55, 56, 57, 58, 59, 60, 61, 62, 63,
 ];
 
-/// Both halves.
+/// The first lanes of two vectors, the second lanes, and so on.
 #[inline(always)]
-fn joined(low: u8x32, high: u8x32) -> u8x64
-    ensures low { (i : ℕ) → i < 32 → slice_index result i ≡ slice_index low i }
-    ensures high { (i : ℕ) → i < 32 → slice_index result (32 + i) ≡ slice_index high i }
+fn woven(zeros: u8x32, ones: u8x32) -> u8x64
+    ensures zeros { (i : ℕ) → i < 32 → slice_index result (2 * i) ≡ slice_index zeros i }
+    ensures ones { (i : ℕ) → i < 32 → slice_index result (2 * i + 1) ≡ slice_index ones i }
 {
+    let (low, high) = zeros.interleave(ones);
     low.shuffle::<64>(high, ORDER)
 }
 
-/// Tails one step on from even states: the state's oldest bit, a 0, comes in above, the oldest bit goes.
+/// The metrics and the tags one step on: to the metrics of the even and of the odd states before the branch metrics are
+/// added, the two are compared, and the survivor's metric and tag are selected.
 #[inline(always)]
-fn halved(v: u8x32) -> u8x32
-    ensures { (i : ℕ) → i < 32 → slice_index result i ≡ slice_index v i / 2 }
+pub fn add_compare_select(metrics: u8x64, tags: u8x64, received: Received) -> (u8x64, u8x64)
+    ensures metrics { AreLow metrics → (n : ℕ) → n < 64 → slice_index result.0 n ≡ next_metric received metrics n }
+    ensures tags { AreLow metrics → (n : ℕ) → n < 64 → slice_index result.1 n ≡ next_tag received metrics tags n }
 {
-    v >> u8x32::splat(1)
+    let same = even_costs(received);
+    let other = odd_costs(received);
+    let even = low_half(metrics);
+    let odd = high_half(metrics);
+    let even_tags = low_half(tags);
+    let odd_tags = high_half(tags);
+    let zero_even = sum(even, same);
+    let zero_odd = sum(odd, other);
+    let one_even = sum(even, other);
+    let one_odd = sum(odd, same);
+    let zero_metrics = surviving_metrics(zero_even, zero_odd);
+    let one_metrics = surviving_metrics(one_even, one_odd);
+    let zero_tags = surviving_tags(zero_even, zero_odd, even_tags, odd_tags);
+    let one_tags = surviving_tags(one_even, one_odd, even_tags, odd_tags);
+    let new_metrics = woven(zero_metrics, one_metrics);
+    let new_tags = woven(zero_tags, one_tags);
+    (new_metrics, new_tags)
 }
 
-/// Tails one step on from odd states: a 1 comes in above.
+/// The two newest bits of each lane's state, where a tag has the first two bits of its block.
+static FIRST_BITS: [u8; 64] = [
+    0, 64, 128, 192, 0, 64, 128, 192, 0, 64, 128, 192, 0, 64, 128, 192, 0, 64, 128, 192, 0, 64,
+    128, 192, 0, 64, 128, 192, 0, 64, 128, 192, 0, 64, 128, 192, 0, 64, 128, 192, 0, 64, 128, 192,
+    0, 64, 128, 192, 0, 64, 128, 192, 0, 64, 128, 192, 0, 64, 128, 192, 0, 64, 128, 192,
+];
+
+/// The tags one step on, where `age` steps came before behind the boundary: at the second step the first two bits of the
+/// block, which are then the two newest of each lane, are put to them.
 #[inline(always)]
-fn topped(v: u8x32) -> u8x32
-    ensures { (i : ℕ) → i < 32 → slice_index result i ≡ 128 + slice_index v i / 2 }
+pub fn marked(tags: u8x64, age: u8) -> u8x64
+    ensures second { age ≡ 1 → (n : ℕ) → n < 64 → slice_index tags n < 64 → slice_index result n ≡ slice_index tags n + 64 * (n % 4) }
+    ensures other { (age ≡ 1 → ⊥) → result ≡ tags }
 {
-    let half = halved(v);
-    half + u8x32::splat(128)
+    if age == 1 {
+        return tags + u8x64::from_array(FIRST_BITS);
+    }
+    tags
 }
 
 /// The metrics, less the least of them.
@@ -193,95 +243,4 @@ pub fn lowered(v: u8x64, least: u8) -> u8x64
     ensures { (n : ℕ) → n < 64 → slice_index result n ≡ slice_index v n - least }
 {
     v - u8x64::splat(least)
-}
-
-/// The metrics and the tails one step on: to the metrics of the even and of the odd states before the branch metrics are
-/// added, the two are compared, and the survivor's metric and tail are selected.
-#[inline(always)]
-pub fn add_compare_select(metrics: u8x64, tails: u8x64, received: Received) -> (u8x64, u8x64)
-    ensures metrics { AreLow metrics → (n : ℕ) → n < 64 → slice_index result.0 n ≡ next_metric received metrics n }
-    ensures tails { AreLow metrics → (n : ℕ) → n < 64 → slice_index result.1 n ≡ next_tail received metrics tails n }
-{
-    let added = branch_metrics(received);
-    let low = low_half(added);
-    let high = high_half(added);
-    let even = evens(metrics);
-    let odd = odds(metrics);
-    let evens_tail = evens(tails);
-    let even_tail = halved(evens_tail);
-    let odds_tail = odds(tails);
-    let odd_tail = topped(odds_tail);
-    let low_even = half_sum(even, low);
-    let low_odd = half_sum(odd, high);
-    let high_even = half_sum(even, high);
-    let high_odd = half_sum(odd, low);
-    let low_metrics = surviving_metrics(low_even, low_odd);
-    let high_metrics = surviving_metrics(high_even, high_odd);
-    let low_tail = surviving_tails(low_even, low_odd, even_tail, odd_tail);
-    let high_tail = surviving_tails(high_even, high_odd, even_tail, odd_tail);
-    let new_metrics = joined(low_metrics, high_metrics);
-    let new_tails = joined(low_tail, high_tail);
-    (new_metrics, new_tails)
-}
-
-/// The least lane, by halves.
-#[inline(always)]
-fn least_of_two(v: u8x2) -> u8
-    ensures least { All (λ x. result ≤ x) v }
-    ensures lane { Contains v result }
-{
-    let pair = v.to_array();
-    if pair[1] < pair[0] { pair[1] } else { pair[0] }
-}
-
-#[inline(always)]
-fn least_of_four(v: u8x4) -> u8
-    ensures least { All (λ x. result ≤ x) v }
-    ensures lane { Contains v result }
-{
-    least_of_two(v.extract::<0, 2>().simd_min(v.extract::<2, 2>()))
-}
-
-#[inline(always)]
-fn least_of_eight(v: u8x8) -> u8
-    ensures least { All (λ x. result ≤ x) v }
-    ensures lane { Contains v result }
-{
-    least_of_four(v.extract::<0, 4>().simd_min(v.extract::<4, 4>()))
-}
-
-#[inline(always)]
-fn least_of_sixteen(v: u8x16) -> u8
-    ensures least { All (λ x. result ≤ x) v }
-    ensures lane { Contains v result }
-{
-    least_of_eight(v.extract::<0, 8>().simd_min(v.extract::<8, 8>()))
-}
-
-#[inline(always)]
-fn least_of_thirty_two(v: u8x32) -> u8
-    ensures least { All (λ x. result ≤ x) v }
-    ensures lane { Contains v result }
-{
-    least_of_sixteen(v.extract::<0, 16>().simd_min(v.extract::<16, 16>()))
-}
-
-/// The least lane.
-#[inline(always)]
-pub fn least_of_all(v: u8x64) -> u8
-    ensures least { All (λ x. result ≤ x) v }
-    ensures lane { Contains v result }
-{
-    least_of_thirty_two(v.extract::<0, 32>().simd_min(v.extract::<32, 32>()))
-}
-
-/// The first lane that has this value.
-#[inline(always)]
-pub fn first_equal(v: u8x64, byte: u8) -> usize
-    requires { Contains v byte }
-    ensures within { result < 64 }
-    ensures equal { slice_index v result ≡ byte }
-    ensures first { (i : ℕ) → i < result → slice_index v i ≡ byte → ⊥ }
-{
-    v.simd_eq(u8x64::splat(byte)).to_bitmask().trailing_zeros() as usize
 }

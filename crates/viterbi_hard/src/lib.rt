@@ -14,11 +14,13 @@
 //! No call takes memory.
 #![tactic(auto)]
 
+mod blocks;
 mod decoder;
 mod lanes;
 mod laws;
+mod least;
+mod maps;
 mod received;
-mod survivors;
 
 pub use decoder::Decoder;
 pub use laws::{clean_law, least_path_law, window_law};

@@ -72,7 +72,7 @@ loop-step-preserved c =
           subst Fed next (elim c.if-self-lt-WAIT.branch [
             | then-self-lt-WAIT w ↦
                 rw (w.self-is, w.out-is, w.end-is)
-                (feed-more start c.loop-step.self (record c.step-bit.new.self { steps = c.step-bit.new.self.steps + 1 }) c.args.bits.now before c.loop-step.out c.loop-step.end (done + c.loop-step.step) c.received_step-read.result c.step-bit.result so_far (λ rs k. let m = c.step-bit.ensures.keeps rs k in record { young = m.young; holds = m.holds }) c.step-bit.ensures.decides c.step-bit.ensures.rate here (omega (arith, c.step-bit.ensures.steps, w.if-self-lt-WAIT.true)) (omega (arith, c.step-bit.ensures.steps)))
+                (feed-more start c.loop-step.self (record c.step-bit.new.self { steps = c.step-bit.new.self.steps + 1 }) c.args.bits.now before c.loop-step.out c.loop-step.end (done + c.loop-step.step) c.received_step-read.result c.step-bit.result so_far (λ rs k. let m = c.step-bit.ensures.keeps rs k in record { young = m.young; few = m.few; holds = m.holds; tags = m.tags; traced = m.traced }) c.step-bit.ensures.decides c.step-bit.ensures.rate here (omega (arith, c.step-bit.ensures.steps, w.if-self-lt-WAIT.true)) (omega (arith, c.step-bit.ensures.steps)))
             | else-self-lt-WAIT w ↦
                 rw (w.self-is, w.out-is, w.end-is)
                 (feed-out start c.loop-step.self _ c.args.bits.now before c.loop-step.out c.loop-step.end (done + c.loop-step.step) c.received_step-read.result c.step-bit.result so_far c.step-bit.ensures.keeps c.step-bit.ensures.decides c.step-bit.ensures.rate here (omega (arith, c.step-bit.ensures.steps, w.if-self-lt-WAIT.false)) c.step-bit.ensures.steps (omega (arith, c.loop-step.invariant.few, low, c.requires.room, c.loop-step.auto.out)))
