@@ -1,6 +1,6 @@
 -- The steps' places among the read bits, and the cost of a path step by step.
 use Rattle.std.proofs.Common.{◌≡◌, ℕ, zero, suc, ◌+◌, ◌-◌, ◌*◌, ◌/◌, ◌%◌, ◌<◌, ◌≤◌, ◌⊎◌, ◌||◌, not, leb, eqb, Bool, true, false, cond, List, [], ◌∷◌, length, count_by, get_or, refl, ap, sym, ◌∙◌, arith, inl, inr, add-zero, zero-add}
-use Rattle.std.specs.Prelude.{◌==◌, sum_by}
+use Rattle.std.specs.Prelude.{sum_by}
 use Rattle.std.specs.List.{range_with_len}
 use Rattle.std.proofs.lemmas.Bool.{agree_below_at, cases_lt, eqb-true, leb-true}
 use Rattle.std.proofs.lemmas.Bool.Decides.{leb_tells}
@@ -18,7 +18,7 @@ use Rattle.conv_punct.proofs.CodedLaws.{coded_bit-prefix}
 use Rattle.viterbi_hard.specs.declared.received.Decision.TheVariants.{Punctured}
 use Rattle.viterbi_hard.specs.declared.received.Received.{Received}
 use Rattle.viterbi_hard.specs.LeastPath.{path_bit, path_cost}
-use Rattle.viterbi_hard.specs.Steps.{decision_of, received_at, received_steps, sends_x, sends_y, sent_before, used_at}
+use Rattle.viterbi_hard.specs.Steps.{decision_of, is_x, is_y, received_at, received_steps, sends_x, sends_y, sent_before, used_at}
 use Rattle.viterbi_hard.specs.Trellis.{bit, branch_metric, differs, list_metric, sum_x, sum_y}
 
 -- ---- places
@@ -90,22 +90,13 @@ coded_len-suc rate n =
 
 -- ---- the outputs at these places
 
-is_x : Output → ℕ → Bool
-is_x (x_of a) j = a == j
-is_x (y_of a) j = false
-
-is_y : Output → ℕ → Bool
-is_y (x_of a) j = false
-is_y (y_of a) j = a == j
-
 abbrev x_there : Rate → ℕ → Bool
-x_there rate j = not (sends_x rate j) || is_x (output_at rate (sent_before rate j)) j
+x_there rate j = not (sends_x rate j) || is_x j (output_at rate (sent_before rate j))
 
 abbrev y_there : Rate → ℕ → Bool
-y_there rate j = not (sends_y rate j) || is_y (output_at rate (sent_before rate j + cond (sends_x rate j) 1 0)) j
+y_there rate j = not (sends_y rate j) || is_y j (output_at rate (sent_before rate j + cond (sends_x rate j) 1 0))
 
 x_test : (rate : Rate) (j : ℕ) → j < rate_steps rate → x_there rate j ≡ true
-unfolding is_x
 x_test R12 j h = agree_below_at (x_there R12) (λ _. true) 1 j refl h
 x_test R23 j h = agree_below_at (x_there R23) (λ _. true) 2 j refl h
 x_test R34 j h = agree_below_at (x_there R34) (λ _. true) 3 j refl h
@@ -113,22 +104,19 @@ x_test R56 j h = agree_below_at (x_there R56) (λ _. true) 5 j refl h
 x_test R78 j h = agree_below_at (x_there R78) (λ _. true) 7 j refl h
 
 y_test : (rate : Rate) (j : ℕ) → j < rate_steps rate → y_there rate j ≡ true
-unfolding is_y
 y_test R12 j h = agree_below_at (y_there R12) (λ _. true) 1 j refl h
 y_test R23 j h = agree_below_at (y_there R23) (λ _. true) 2 j refl h
 y_test R34 j h = agree_below_at (y_there R34) (λ _. true) 3 j refl h
 y_test R56 j h = agree_below_at (y_there R56) (λ _. true) 5 j refl h
 y_test R78 j h = agree_below_at (y_there R78) (λ _. true) 7 j refl h
 
-is_x-true : (o : Output) (j : ℕ) → is_x o j ≡ true → o ≡ x_of j
-unfolding is_x
-is_x-true (x_of a) j h = ap x_of (eqb-true a j h)
+is_x-true : (o : Output) (j : ℕ) → is_x j o ≡ true → o ≡ x_of j
+is_x-true (x_of a) j h = ap x_of (sym (eqb-true j a h))
 is_x-true (y_of a) j h = cc
 
-is_y-true : (o : Output) (j : ℕ) → is_y o j ≡ true → o ≡ y_of j
-unfolding is_y
+is_y-true : (o : Output) (j : ℕ) → is_y j o ≡ true → o ≡ y_of j
 is_y-true (x_of a) j h = cc
-is_y-true (y_of a) j h = ap y_of (eqb-true a j h)
+is_y-true (y_of a) j h = ap y_of (sym (eqb-true j a h))
 
 or-second : (a b : Bool) → (not a || b) ≡ true → a ≡ true → b ≡ true
 or-second true b e h = e

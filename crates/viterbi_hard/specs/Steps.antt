@@ -1,27 +1,28 @@
 -- What was read of each step of the mother code: the steps' places among the read bits.
-use Rattle.std.specs.Prelude.{ℕ, zero, suc, ◌+◌, ◌%◌, ◌==◌, ◌||◌, ◌&&◌, not, Bool, true, false, cond, List, [], ◌∷◌}
+use Rattle.std.specs.Prelude.{ℕ, zero, suc, ◌+◌, ◌%◌, ◌==◌, Bool, true, false, cond, List, [], ◌∷◌}
+use Rattle.std.specs.List.{list_any}
 use Rattle.isdbt_base.specs.declared.kinds.Rate.{Rate}
-use Rattle.isdbt_base.specs.declared.kinds.Rate.TheVariants.{R12, R23, R34, R56, R78}
 use Rattle.isdbt_base.specs.Numbers.{rate_steps}
-use Rattle.conv_punct.specs.CodedBits.{coded_len}
+use Rattle.conv_punct.specs.CodedBits.{Output, x_of, y_of, coded_len, pattern}
 use Rattle.viterbi_hard.specs.declared.received.Decision.{Decision}
 use Rattle.viterbi_hard.specs.declared.received.Decision.TheVariants.{Punctured, Zero, One}
 use Rattle.viterbi_hard.specs.declared.received.Received.{Received}
 
+-- whether an output is X, or Y, of step j
+abbrev pub is_x : ℕ → Output → Bool
+is_x j (x_of a) = j == a
+is_x j (y_of a) = false
+
+abbrev pub is_y : ℕ → Output → Bool
+is_y j (x_of a) = false
+is_y j (y_of a) = j == a
+
 -- whether X and Y of step j of a puncturing pattern are sent
 abbrev pub sends_x : Rate → ℕ → Bool
-sends_x R12 j = true
-sends_x R23 j = j == 0
-sends_x R34 j = not (j == 1)
-sends_x R56 j = (j == 0) || (j == 2) || (j == 4)
-sends_x R78 j = (j == 0) || (j == 4) || (j == 6)
+sends_x rate j = list_any (is_x j) (pattern rate)
 
 abbrev pub sends_y : Rate → ℕ → Bool
-sends_y R12 j = true
-sends_y R23 j = true
-sends_y R34 j = not (j == 2)
-sends_y R56 j = (j == 0) || (j == 1) || (j == 3)
-sends_y R78 j = not (j == 4) && not (j == 6)
+sends_y rate j = list_any (is_y j) (pattern rate)
 
 -- the bits that are sent of step j of a pattern, and of the steps before it
 abbrev pub used_at : Rate → ℕ → ℕ

@@ -31,9 +31,9 @@ fn sends_x(rate: Rate, step: u32) -> bool
     ensures { result ≡ sends_x rate step }
 {
     match rate {
-        Rate::R12 => true,
+        Rate::R12 => step == 0,
         Rate::R23 => step == 0,
-        Rate::R34 => step != 1,
+        Rate::R34 => step == 0 || step == 2,
         Rate::R56 => step == 0 || step == 2 || step == 4,
         Rate::R78 => step == 0 || step == 4 || step == 6,
     }
@@ -45,11 +45,11 @@ fn sends_y(rate: Rate, step: u32) -> bool
     ensures { result ≡ sends_y rate step }
 {
     match rate {
-        Rate::R12 => true,
-        Rate::R23 => true,
-        Rate::R34 => step != 2,
+        Rate::R12 => step == 0,
+        Rate::R23 => step == 0 || step == 1,
+        Rate::R34 => step == 0 || step == 1,
         Rate::R56 => step == 0 || step == 1 || step == 3,
-        Rate::R78 => step != 4 && step != 6,
+        Rate::R78 => step == 0 || step == 1 || step == 2 || step == 3 || step == 5,
     }
 }
 
