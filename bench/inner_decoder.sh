@@ -1,9 +1,10 @@
 #!/bin/sh
 # Prints how fast the inner decoder is: nanoseconds of a decoded bit at each rate on one core, the best of so many rounds of
 # 16128 read bits, and the factor to real time at the highest bit rate of that code rate (13 segments, mode 3, guard 1/8,
-# 64QAM: 6,110,208 read bits a frame of 231.336 ms). Beside it the plain form, one state after the other, over the same
-# bits; the two must decide alike. Run by hand; no gate runs it. It proves and builds a small program over `viterbi_hard`
-# in a temporary folder.
+# 64QAM: 6,110,208 read bits a frame of 231.336 ms). Read are the coded bits of random input, clean and with 3 bits of 100
+# wrong, bits at random, and 0 and 1 in turn. Beside it the plain form, one state after the other, over the same bits, and
+# the factor between the two, which must decide alike. Run by hand; no gate runs it. It proves and builds a small program
+# over `viterbi_hard` in a temporary folder.
 #
 #     bench/inner_decoder.sh [rounds, 200 if left out]
 set -eu
@@ -20,8 +21,8 @@ done
 cp "$top/HANDLES" "$folder"
 echo 'measure: isdbt_base viterbi_hard' >>"$folder/crates.txt"
 cat >"$measure/src/main.rt" <<'END'
-//! Decodes random bits at each rate, by the decoder and by its plain form, and prints the nanoseconds of the fastest round
-//! and a sum of the decided bits.
+//! Decodes bits of four kinds at each rate, by the decoder and by its plain form, and prints the nanoseconds of the fastest
+//! round and a sum of the decided bits.
 #![tactic(auto)]
 
 ghost use Rattle.std.specs.Prelude.{◌≡◌};
@@ -34,14 +35,90 @@ use viterbi_hard::Decoder;
 
 const ROUNDS: u32 = ROUNDS_WANTED;
 
-/// Bits of many kinds.
-fn fill(bits: &mut [bool]) {
-    let mut state = 88172645463325252u64;
+/// What is read.
+#[derive(Clone, Copy)]
+enum Kind {
+    /// Coded bits of random input.
+    Clean,
+    /// The same with 3 bits of 100 wrong.
+    Wrong,
+    /// Bits at random.
+    Random,
+    /// 0 and 1 in turn.
+    Alternating,
+}
+
+impl Kind {
+    fn name(self) -> &'static str {
+        match self {
+            Kind::Clean => "clean",
+            Kind::Wrong => "wrong",
+            Kind::Random => "random",
+            Kind::Alternating => "alternating",
+        }
+    }
+}
+
+/// Numbers at random, by shifts and sums modulo 2.
+#[derive(Clone, Copy)]
+struct Noise {
+    state: u64,
+}
+
+impl Noise {
+    fn next(&mut self) -> u64 {
+        self.state ^= self.state << 13;
+        self.state ^= self.state >> 7;
+        self.state ^= self.state << 17;
+        self.state
+    }
+}
+
+/// The coded bits of random input, of which so many in a thousand are wrong.
+fn code(rate: Rate, wrong: u64, bits: &mut [bool]) {
+    let mut noise = Noise {
+        state: 88172645463325252,
+    };
+    let (steps, _) = rate_pair(rate);
+    let (sends_x, sends_y) = sent(rate);
+    let mut inputs = 0u32;
+    let mut phase = 0u32;
+    let mut y_next = false;
     for bit in bits.iter_mut() {
-        state ^= state << 13;
-        state ^= state >> 7;
-        state ^= state << 17;
-        *bit = state % 2 == 1;
+        if !y_next {
+            inputs = (inputs >> 1) | ((noise.next() >> 40) as u32 & 1) << 6;
+        }
+        let is_x = !y_next && sends_x >> (phase % 8) & 1 == 1;
+        let mask = if is_x { 0x79 } else { 0x5B };
+        *bit = (inputs & mask).count_ones() % 2 == 1;
+        if noise.next() >> 20 & 1023 < wrong {
+            *bit = !*bit;
+        }
+        y_next = is_x && sends_y >> (phase % 8) & 1 == 1;
+        if !y_next {
+            phase = (phase % 8 + 1) % steps.max(1);
+        }
+    }
+}
+
+/// Bits of a kind.
+fn fill(rate: Rate, kind: Kind, bits: &mut [bool]) {
+    match kind {
+        Kind::Clean => code(rate, 0, bits),
+        Kind::Wrong => code(rate, 31, bits),
+        Kind::Random => {
+            let mut noise = Noise {
+                state: 88172645463325252,
+            };
+            for bit in bits.iter_mut() {
+                *bit = noise.next() >> 30 & 1 == 1;
+            }
+        }
+        Kind::Alternating => {
+            for (place, bit) in bits.iter_mut().enumerate() {
+                *bit = place % 2 == 1;
+            }
+        }
     }
 }
 
@@ -195,13 +272,16 @@ fn time_plain(clock: &impl Clock, rate: Rate, bits: &[bool; 16128], out: &mut [b
 fn main(rt: HostRuntime) -> io::Result<()> {
     let mut bits = [false; 16128];
     let mut out = [false; 16128];
-    fill(&mut bits);
-    for rate in [Rate::R12, Rate::R23, Rate::R34, Rate::R56, Rate::R78] {
-        let (steps, sent) = rate_pair(rate);
-        let (best, sum) = time_decoder(&rt, rate, &bits, &mut out)?;
-        println!(rt; "decoder {steps} {sent} {best} {sum:x}")?;
-        let (best, sum) = time_plain(&rt, rate, &bits, &mut out)?;
-        println!(rt; "plain {steps} {sent} {best} {sum:x}")?;
+    for kind in [Kind::Clean, Kind::Wrong, Kind::Random, Kind::Alternating] {
+        for rate in [Rate::R12, Rate::R23, Rate::R34, Rate::R56, Rate::R78] {
+            let (steps, sent) = rate_pair(rate);
+            let name = kind.name();
+            fill(rate, kind, &mut bits);
+            let (best, sum) = time_decoder(&rt, rate, &bits, &mut out)?;
+            println!(rt; "decoder {name} {steps} {sent} {best} {sum:x}")?;
+            let (best, sum) = time_plain(&rt, rate, &bits, &mut out)?;
+            println!(rt; "plain {name} {steps} {sent} {best} {sum:x}")?;
+        }
     }
     Ok(())
 }
@@ -209,8 +289,8 @@ END
 sed -i "s/ROUNDS_WANTED/$rounds/" "$measure/src/main.rt"
 (cd "$measure" && rt run 2>"$folder/log") >"$folder/out" || { cat "$folder/log" "$folder/out" >&2; exit 1; }
 awk '$1 == "decoder" || $1 == "plain" {
-    bits = 16128 * $2 / $3
-    printf "rate %s/%s, %s: %.1f ns a decoded bit, %.2f times real time\n", $2, $3, $1 == "plain" ? "plain form" : "decoder", $4 / bits, 231336000 / (6110208 * $2 / $3 * $4 / bits)
-    if ($1 == "decoder") sum = $5
-    else if (sum != $5) { print "the two decide otherwise"; exit 1 }
+    bit = $5 / (16128 * $3 / $4)
+    if ($1 == "decoder") { sum = $6; own = bit }
+    else if (sum != $6) { print "the two decide otherwise"; exit 1 }
+    else printf "%s, rate %s/%s: %.1f ns a decoded bit, %.2f times real time; plain form %.1f ns, %.1f times as long\n", $2, $3, $4, own, 231336000 / (6110208 * $3 / $4 * own), bit, bit / own
 }' "$folder/out"
