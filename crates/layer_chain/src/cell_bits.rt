@@ -9,12 +9,25 @@ use cell_map::{Cell, bits_of};
 use isdbt_base::Modulation;
 
 /// Writes the bits of received cells, a number for each cell.
-pub fn read_numbers(modulation: Modulation, cells: &[Cell], numbers: &mut [u8])
+#[inline(always)]
+fn read_as(modulation: Modulation, cells: &[Cell], numbers: &mut [u8])
     requires { length cells.now ≡ length numbers.old }
     ensures { (w : ℕ) → w < length numbers.new → option_map (bits_of modulation) (slice_get cells.now w) ≡ Some (slice_index_or numbers.new w 0) }
 {
     for place in 0..cells.len() {
         numbers[place] = bits_of(modulation, cells[place]);
+    }
+}
+
+/// The same, with code of its own for each modulation.
+pub fn read_numbers(modulation: Modulation, cells: &[Cell], numbers: &mut [u8])
+    requires { length cells.now ≡ length numbers.old }
+    ensures { (w : ℕ) → w < length numbers.new → option_map (bits_of modulation) (slice_get cells.now w) ≡ Some (slice_index_or numbers.new w 0) }
+{
+    match modulation {
+        Modulation::Qpsk => read_as(Modulation::Qpsk, cells, numbers),
+        Modulation::Qam16 => read_as(Modulation::Qam16, cells, numbers),
+        Modulation::Qam64 => read_as(Modulation::Qam64, cells, numbers),
     }
 }
 
