@@ -1,9 +1,8 @@
 //! Packets that come back from the cells of a layer.
 
-ghost use Rattle.std.specs.Prelude.{◌≡◌, ◌+◌, ◌*◌, ◌<◌, ◌≤◌, ◌^◌, IfOk, length, vec_len};
+ghost use Rattle.std.specs.Prelude.{◌≡◌, ◌+◌, ◌*◌, ◌<◌, ◌≤◌, ◌^◌, length};
 ghost use Rattle.isdbt_base.specs.declared.kinds.Rate.TheVariants.{R12};
 ghost use Rattle.isdbt_base.specs.declared.kinds.Mode.TheVariants.{M1};
-ghost use Rattle.isdbt_base.specs.Numbers.{layer_cells};
 ghost use Rattle.conv_punct.specs.StandsFor.{rate_of};
 ghost use Rattle.layer_chain.specs.LayerDecoder.{mode_of, layer_of, cells_of, packets_of, symbols_of};
 

@@ -4,7 +4,6 @@ use Rattle.std.specs.Option.{option_map}
 use Rattle.std.proofs.lemmas.Option.{same_Some}
 use Rattle.isdbt_base.specs.declared.kinds.Mode.{Mode}
 use Rattle.isdbt_base.specs.LayerParameters.{LayerParameters}
-use Rattle.isdbt_base.specs.Parameters.{number_of}
 use Rattle.isdbt_base.specs.Numbers.{carriers, packets_per_frame}
 use Rattle.ts_packet.specs.Packets.{piece_or_null}
 use Rattle.cell_map.specs.declared.cell.Cell.{Cell}

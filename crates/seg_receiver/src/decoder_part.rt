@@ -1,6 +1,6 @@
 //! The decoder of a layer that may be unused.
 
-ghost use Rattle.std.specs.Prelude.{◌≡◌, ℕ, ◌*◌, ◌≤◌, vec_len, IfOk};
+ghost use Rattle.std.specs.Prelude.{◌≡◌, ℕ, ◌*◌, vec_len, IfOk};
 ghost use Rattle.isdbt_base.specs.Parameters.{number_of};
 ghost use Rattle.isdbt_base.specs.Numbers.{packets_per_frame};
 ghost use Rattle.seg_receiver.specs.CellStream.{FrameCells};
