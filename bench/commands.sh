@@ -1,7 +1,7 @@
 #!/bin/sh
 # Prints how fast the commands and their pipes are: frames in a second, and the factor to real time; and the most memory that
 # `code` and `receive` hold.
-# Run by hand; no gate runs it. A frame lasts 204 symbols: 64.26 ms in mode 1 with guard 1/4, 231.336 ms in mode 3 with
+# Run by hand; no gate runs it; it wants perl. A frame lasts 204 symbols: 64.26 ms in mode 1 with guard 1/4, 231.336 ms in mode 3 with
 # guard 1/8.
 #
 #     bench/commands.sh [packets of input, 624000 if left out]
@@ -52,6 +52,16 @@ measure "code, mode 3, three layers" 2036940 231.336 "$top/isdbt" code 3 1/8 $th
 "$top/isdbt" code 3 1/8 $three IN="$folder/three.bts" >"$folder/three.cells"
 measure "receive, mode 1, QPSK 1/2" 261120 64.26 "$top/isdbt" receive 1 1/4 IN="$folder/one.cells"
 measure "receive, mode 3, 64QAM 7/8 (the highest rate)" 940032 231.336 "$top/isdbt" receive 3 1/8 IN="$folder/full.cells"
+# One axis value of 100 negated, at random; a TMCC byte that is met keeps its lowest bit.
+perl -e 'binmode STDIN; binmode STDOUT; srand 1;
+while (read STDIN, my $bytes, 100000) {
+    for (1 .. length($bytes) / 100) {
+        my $at = int rand length $bytes;
+        substr($bytes, $at, 1) = chr(-ord(substr $bytes, $at, 1) & 255);
+    }
+    print $bytes;
+}' <"$folder/full.cells" >"$folder/noisy.cells"
+measure "receive, the highest rate, 1 of 100 axis values negated" 940032 231.336 "$top/isdbt" receive 3 1/8 IN="$folder/noisy.cells"
 measure "receive, mode 3, three layers" 940032 231.336 "$top/isdbt" receive 3 1/8 IN="$folder/three.cells"
 
 cat >"$folder/pipe" <<END
