@@ -1,5 +1,5 @@
 -- The lane whose survivor is the best, and the bit that is decided on it.
-use Rattle.std.proofs.Common.{◌≡◌, ℕ, zero, suc, ◌+◌, ◌-◌, ◌/◌, ◌%◌, ◌^◌, ◌<◌, ◌≤◌, Bool, false, List, length, drop, take, get_or, refl, ap, sym, ◌∙◌, arith, inl, inr, subst}
+use Rattle.std.proofs.Common.{◌≡◌, ℕ, zero, suc, ◌+◌, ◌-◌, ◌/◌, ◌^◌, ◌<◌, ◌≤◌, Bool, false, List, length, drop, take, get_or, refl, ap, sym, ◌∙◌, arith, inl, inr, subst}
 use Rattle.std.proofs.Math.Nat.{eq-or-lt_of_le}
 use Rattle.std.proofs.lemmas.List.{get_or-drop, get_or-take}
 use Rattle.viterbi_hard.specs.declared.received.Received.{Received}
@@ -8,7 +8,6 @@ use Rattle.viterbi_hard.specs.States.{AreTags, Holds, IsLabel, natural_of, odd, 
 use Rattle.viterbi_hard.specs.StandsFor.{HasLabel}
 use Rattle.viterbi_hard.proofs.PackLaws.{lane_of, lane-lt, natural_order, natural_same, state-lane}
 use Rattle.viterbi_hard.proofs.PathLaws.{label_back}
-use Rattle.viterbi_hard.proofs.StateLaws.{state_mod}
 use Rattle.viterbi_hard.proofs.TrellisLaws.{no_later_refl, precedes_total, precedes_trans}
 use Rattle.viterbi_hard.proofs.ZeroStart.{chosen_is_least}
 
@@ -66,15 +65,14 @@ some_chosen rs = let best = best_below rs 63 (omega arith) in (best.0, best.1, c
 -- ---- the label of the decided bit
 
 -- where it is that of all survivors at the boundary
-pub label_known : (label age : ℕ) (tags : List ℕ) (rs : List Received) → AreTags tags age rs → ((n : ℕ) → n < 64 → IsLabel label (drop 120 (path_at (drop age rs) n))) → HasLabel label age rs
-label_known label age tags rs t f =
+pub label_ahead : (label age : ℕ) (rs : List Received) → ((n : ℕ) → n < 64 → IsLabel label (drop 120 (path_at (drop age rs) n))) → HasLabel label age rs
+label_ahead label age rs f =
     let some = some_chosen rs in
-    let tag : ℕ = get_or tags some.0 0 in
-    let e : state_of (get_or tags some.0 0 % 64) ≡ newest_state (drop age (path_at rs some.0)) = state_mod (get_or tags some.0 0) ∙ (t some.0 some.1).state in
+    let s : TrellisState = newest_state (drop age (path_at rs some.0)) in
     record {
       lane = some.0;
       chosen = some.2;
-      is = label_back age rs some.0 (get_or tags some.0 0 % 64) e 120 label (f (get_or tags some.0 0 % 64) (omega arith));
+      is = label_back age rs some.0 (lane_of (newest_state (drop age (path_at rs some.0)))) (state-lane (newest_state (drop age (path_at rs some.0)))) 120 label (f (lane_of (newest_state (drop age (path_at rs some.0)))) (lane-lt (newest_state (drop age (path_at rs some.0)))));
     }
 
 -- where it is that of the best survivor

@@ -1,5 +1,5 @@
 -- A feed, step by step.
-use Rattle.std.proofs.Common.{◌≡◌, ℕ, suc, ◌+◌, ◌-◌, ◌*◌, ◌/◌, ◌%◌, ◌<◌, ◌≤◌, ◌≢◌, Bool, true, false, cond, List, ◌∷◌, length, get_or, set, refl, ap, sym, subst, ◌∙◌, arith, inl, inr, get_or-set_same, get_or-set_other, add-zero}
+use Rattle.std.proofs.Common.{◌≡◌, ℕ, zero, suc, ◌+◌, ◌-◌, ◌*◌, ◌/◌, ◌%◌, ◌<◌, ◌≤◌, ◌≢◌, ◌⊎◌, Bool, true, false, cond, List, ◌∷◌, drop, length, get_or, set, refl, ap, sym, subst, ◌∙◌, arith, inl, inr, get_or-set_same, get_or-set_other, add-zero, zero-add}
 use Rattle.std.specs.Prelude.{min}
 use Rattle.std.proofs.Math.Nat.{mul-le-mul_left, mul-div-le}
 use Rattle.std.proofs.lemmas.Bool.{cases_lt}
@@ -7,13 +7,13 @@ use Rattle.isdbt_base.specs.declared.kinds.Rate.{Rate}
 use Rattle.isdbt_base.specs.declared.kinds.Rate.TheVariants.{R12, R23, R34, R56, R78}
 use Rattle.isdbt_base.specs.Numbers.{rate_steps, rate_bits}
 use Rattle.conv_punct.specs.CodedBits.{coded_len}
-use Rattle.conv_punct.proofs.PatternLaws.{outputs_before}
+use Rattle.conv_punct.proofs.PatternLaws.{outputs_before, rest-lt, whole}
 use Rattle.viterbi_hard.specs.declared.decoder.Decoder.{Decoder}
 use Rattle.viterbi_hard.specs.declared.received.Decision.TheVariants.{Punctured}
 use Rattle.viterbi_hard.specs.declared.received.Received.{Received}
 use Rattle.viterbi_hard.specs.LeastPath.{decided_bit}
 use Rattle.viterbi_hard.specs.StandsFor.{FeedsTo, GoesOn, IsPlace, Keeps, Stands, StandsFor, steps_in}
-use Rattle.viterbi_hard.specs.Steps.{decision_of, received_at, received_from, received_steps, sends_x, sends_y, sent_before, used_at}
+use Rattle.viterbi_hard.specs.Steps.{decision_of, nothing, pushed, received_at, received_from, received_steps, sends_x, sends_y, sent_before, used_at}
 use Rattle.viterbi_hard.specs.Trellis.{IsDecided}
 use Rattle.viterbi_hard.proofs.DecidedLaws.{trellis-decides}
 use Rattle.viterbi_hard.proofs.StepLaws.{coded_len-suc, fits, length-received}
@@ -24,12 +24,21 @@ use Rattle.viterbi_hard.proofs.StepLaws.{coded_len-suc, fits, length-received}
 pub at-fits : (rate : Rate) (first j at : ℕ) → at ≡ first + sent_before rate j → j < rate_steps rate → at + used_at rate j ≤ first + rate_bits rate
 at-fits rate first j at e l = omega (arith, fits rate j l)
 
--- a pattern's bits and steps lie in those of all patterns
-pub pattern-fits : (rate : Rate) (len q : ℕ) → q < len / rate_bits rate → rate_bits rate * q + rate_bits rate ≤ len
-pattern-fits rate len q h = let le : suc q ≤ len / rate_bits rate = omega arith in omega (arith, mul-le-mul_left (rate_bits rate) le, mul-div-le len (rate_bits rate))
+-- the bits and the steps of so many more patterns lie in those of all
+pub bits-fit : (rate : Rate) (len done count bits : ℕ) → bits ≡ rate_bits rate → done + count ≤ len / bits → done * bits + rate_bits rate * count ≤ len
+bits-fit rate len done count bits e h =
+    let le : done + count ≤ len / rate_bits rate = omega (arith, ap (λ b. len / b) e) in
+    omega (arith, ap (λ b. done * b) e, mul-le-mul_left (rate_bits rate) le, mul-div-le len (rate_bits rate))
 
-pub steps-fit : (rate : Rate) (len q : ℕ) → q < len / rate_bits rate → rate_steps rate * q + rate_steps rate ≤ steps_in rate len
-steps-fit rate len q h = let le : suc q ≤ len / rate_bits rate = omega arith in omega (arith, mul-le-mul_left (rate_steps rate) le)
+pub steps-fit : (rate : Rate) (len done count bits : ℕ) → bits ≡ rate_bits rate → done + count ≤ len / bits → rate_steps rate * done + rate_steps rate * count ≤ steps_in rate len
+steps-fit rate len done count bits e h =
+    let le : done + count ≤ len / rate_bits rate = omega (arith, ap (λ b. len / b) e) in
+    omega (arith, mul-le-mul_left (rate_steps rate) le)
+
+pub buffer-fits : (rate : Rate) (room count steps : ℕ) → steps ≡ rate_steps rate → count ≤ room / steps → rate_steps rate * count ≤ room
+buffer-fits rate room count steps e h =
+    let le : count ≤ room / rate_steps rate = omega (arith, ap (λ b. room / b) e) in
+    omega (arith, mul-le-mul_left (rate_steps rate) le, mul-div-le room (rate_steps rate))
 
 -- the step of the pattern, after whole patterns
 step-of : (rate : Rate) (n done j : ℕ) → n % rate_steps rate ≡ 0 → done % rate_steps rate ≡ 0 → j < rate_steps rate → (n + (done + j)) % rate_steps rate ≡ j
@@ -103,15 +112,47 @@ same-step rate bits at done j r read n is h k g l p room =
     ∙ ap (λ a. received_from rate read a j) (p n h)
     ∙ ap (λ v. received_from rate read (coded_len rate m) v) (sym step)
 
--- the same for an equal rate
-pub same-step-at : (rate other : Rate) (bits : List Bool) (at done j : ℕ) (r : Received) (read : ℕ → Bool) (n : ℕ) → rate ≡ other
-    → r ≡ received_from rate (λ i. get_or bits i false) at j → j < rate_steps rate → at + used_at rate j ≤ length bits
-    → n % rate_steps other ≡ 0 → done % rate_steps other ≡ 0 → GoesOn other read n bits → IsPlace other at (done + j)
-    → r ≡ received_at other read (n + (done + j))
-same-step-at rate other bits at done j r read n e is l room h k g p =
-    same-step other bits at done j r read n
-    (is ∙ ap (λ v. received_from v (λ i. get_or bits i false) at j) e)
-    h k g (subst (λ v. j < rate_steps v) e l) p (subst (λ v. at + used_at v j ≤ length bits) e room)
+-- from a place on, so many steps of a pattern on
+place-steps : (rate : Rate) (at done : ℕ) → done % rate_steps rate ≡ 0 → IsPlace rate at done → (j : ℕ) → j < rate_steps rate → IsPlace rate (at + sent_before rate j) (done + j)
+place-steps rate at done k p zero h = subst (λ a. IsPlace rate a (done + 0)) (sym (add-zero at)) (subst (λ d. IsPlace rate at d) (sym (add-zero done)) p)
+place-steps rate at done k p (suc j) h =
+    let there : at + sent_before rate j + used_at rate j ≡ at + sent_before rate (suc j) = omega arith in
+    let next : done + j + 1 ≡ done + suc j = omega arith in
+    subst (λ a. IsPlace rate a (done + suc j)) there
+    (subst (λ d. IsPlace rate (at + sent_before rate j + used_at rate j) d) next
+    (place-next rate (at + sent_before rate j) done j k (omega arith) (place-steps rate at done k p j (omega arith))))
+
+div-lt : (rate : Rate) (i count : ℕ) → i < rate_steps rate * count → i / rate_steps rate < count
+div-lt R12 i count h = omega arith
+div-lt R23 i count h = omega arith
+div-lt R34 i count h = omega arith
+div-lt R56 i count h = omega arith
+div-lt R78 i count h = omega arith
+
+-- the steps of so many patterns behind the first ones
+pub expanded : (rate : Rate) (bits : List Bool) (steps : List Received) (p count : ℕ) → rate_bits rate * (p + count) ≤ length bits
+    → ((q j : ℕ) → q < count → j < rate_steps rate → get_or steps (rate_steps rate * q + j) nothing ≡ received_from rate (λ i. get_or bits i false) (rate_bits rate * p + rate_bits rate * q + sent_before rate j) j)
+    → (read : ℕ → Bool) (n : ℕ) → n % rate_steps rate ≡ 0 → GoesOn rate read n bits
+    → (i : ℕ) → i < rate_steps rate * count → get_or steps i nothing ≡ received_at rate read (n + (rate_steps rate * p + i))
+expanded rate bits steps p count room f read n k g i h =
+    let q : ℕ = i / rate_steps rate in
+    let j : ℕ = i % rate_steps rate in
+    let low = rest-lt rate i in
+    let lt = div-lt rate i count h in
+    let first : ℕ = rate_bits rate * p + rate_bits rate * q in
+    let parts : rate_steps rate * (i / rate_steps rate) + i % rate_steps rate ≡ i = whole rate i in
+    let back : rate_bits rate * (p + i / rate_steps rate) ≡ rate_bits rate * p + rate_bits rate * (i / rate_steps rate) = omega arith in
+    let on : rate_steps rate * (p + i / rate_steps rate) + i % rate_steps rate ≡ rate_steps rate * p + i = omega (arith, parts) in
+    let upto : suc (i / rate_steps rate) ≤ count = omega arith in
+    let fit = at-fits rate (rate_bits rate * p + rate_bits rate * (i / rate_steps rate)) (i % rate_steps rate) (rate_bits rate * p + rate_bits rate * (i / rate_steps rate) + sent_before rate (i % rate_steps rate)) refl low in
+    ap (λ m. get_or steps m nothing) (sym parts)
+    ∙ same-step rate bits (rate_bits rate * p + rate_bits rate * (i / rate_steps rate) + sent_before rate (i % rate_steps rate)) (rate_steps rate * (p + i / rate_steps rate)) (i % rate_steps rate) _ read n
+    (f (i / rate_steps rate) (i % rate_steps rate) lt low)
+    k (whole-times rate (p + i / rate_steps rate)) g low
+    (subst (λ a. IsPlace rate (a + sent_before rate (i % rate_steps rate)) (rate_steps rate * (p + i / rate_steps rate) + i % rate_steps rate)) back
+    (place-steps rate (rate_bits rate * (p + i / rate_steps rate)) (rate_steps rate * (p + i / rate_steps rate)) (whole-times rate (p + i / rate_steps rate)) (place-patterns rate (p + i / rate_steps rate)) (i % rate_steps rate) low))
+    (omega (arith, fit, mul-le-mul_left (rate_bits rate) upto))
+    ∙ ap (λ m. received_at rate read (n + m)) on
 
 -- ---- one step more
 
@@ -179,6 +220,67 @@ module _ (d0 d d2 : Decoder) (bits before out : List Bool) (count done : ℕ) (r
               ∙ ap (decided_bit d0.rate read) place)
         ];
     rest = λ i l. (let ne : i ≢ count = omega arith in rw (get_or-set_other out count i x false ne) (f.rest i (omega arith)));
+  }
+
+-- ---- a whole block more
+
+pub length-pushed : (steps : List Received) (at k : ℕ) (rs : List Received) → length (pushed steps at k rs) ≡ k + length rs
+length-pushed steps at zero rs = sym (zero-add (length rs))
+length-pushed steps at (suc k) rs = omega (arith, length-pushed steps at k rs)
+
+pub drop-pushed : (steps : List Received) (at k : ℕ) (rs : List Received) → drop k (pushed steps at k rs) ≡ rs
+drop-pushed steps at zero rs = refl
+drop-pushed steps at (suc k) rs = drop-pushed steps at k rs
+
+-- steps of the stream, behind those before
+received-pushed : (rate : Rate) (read : ℕ → Bool) (steps : List Received) (at m k : ℕ) → ((i : ℕ) → i < k → get_or steps (at + i) nothing ≡ received_at rate read (m + i)) → pushed steps at k (received_steps rate read m) ≡ received_steps rate read (m + k)
+received-pushed rate read steps at m zero h = ap (received_steps rate read) (sym (add-zero m))
+received-pushed rate read steps at m (suc k) h =
+    let next : m + suc k ≡ suc (m + k) = omega arith in
+    ap (λ r. r ∷ pushed steps at k (received_steps rate read m)) (h k (omega arith))
+    ∙ ap (λ l. received_at rate read (m + k) ∷ l) (received-pushed rate read steps at m k (λ i l. h i (omega arith)))
+    ∙ ap (received_steps rate read) (sym next)
+
+module _ (d0 d d2 : Decoder) (bits before out out2 : List Bool) (count done at : ℕ) (steps : List Received)
+    (f : FeedsTo d0 d bits before out count done)
+    (many : 127 ≤ d.steps)
+    (keeps : (rs : List Received) → Keeps d rs → Keeps d2 (pushed steps at 8 rs))
+    (decides : (rs : List Received) → Keeps d rs → 127 ≤ length rs → (j : ℕ) → j < 8 → IsDecided (pushed steps at (j + 1) rs) (get_or out2 (count + j) false))
+    (others : (i : ℕ) → ((i < count) ⊎ (count + 8 ≤ i)) → get_or out2 i false ≡ get_or out i false)
+    (same : d2.rate ≡ d.rate) (stays : d2.steps ≡ d.steps)
+    (here : (read : ℕ → Bool) (n : ℕ) → StandsFor d0 read n → GoesOn d0.rate read n bits → (i : ℕ) → i < 8 → get_or steps (at + i) nothing ≡ received_at d0.rate read (n + done + i)) where
+  block-bit : (read : ℕ → Bool) (n : ℕ) → StandsFor d0 read n → GoesOn d0.rate read n bits → 127 ≤ n + done → (j : ℕ) → j < 8 → get_or out2 (count + j) false ≡ decided_bit d0.rate read (n + done + j - 127)
+  block-bit read n s g long j h =
+      let is = received-pushed d0.rate read steps at (n + done) (j + 1) (λ i l. here read n s g i (omega arith)) in
+      let next : n + done + (j + 1) ≡ n + done + j - 127 + 128 = omega arith in
+      let own : IsDecided (pushed steps at (j + 1) (received_steps d0.rate read (n + done))) (get_or out2 (count + j) false) =
+      decides (received_steps d0.rate read (n + done)) (f.keeps read n s g) (omega (arith, length-received d0.rate read (n + done))) j h in
+      trellis-decides d0.rate read (n + done + j - 127) (get_or out2 (count + j) false)
+      (subst (λ m. IsDecided (received_steps d0.rate read m) (get_or out2 (count + j) false)) next
+      (subst (λ rs. IsDecided rs (get_or out2 (count + j) false)) is own))
+
+  pub feed-block : FeedsTo d0 d2 bits before out2 (count + 8) (done + 8)
+  feed-block = record {
+    rate = same ∙ f.rate;
+    steps = λ n h. omega (arith, f.steps n h);
+    counted = λ n h. omega (arith, f.steps n h, f.counted n h);
+    keeps = λ read n s g.
+        let next : n + done + 8 ≡ n + (done + 8) = omega arith in
+        subst (λ m. Keeps d2 (received_steps d0.rate read m)) next
+        (subst (Keeps d2) (received-pushed d0.rate read steps at (n + done) 8 (here read n s g)) (keeps (received_steps d0.rate read (n + done)) (f.keeps read n s g)));
+    decided = λ read n s g i l.
+        let steps_are : d0.steps ≡ min 127 n = s.stands.steps ∙ ap (min 127) (length-received d0.rate read n) in
+        let in_all = f.steps n steps_are in
+        let bits_are = f.counted n steps_are in
+        elim (cases_lt i count) [
+          | inl lt ↦ others i (inl lt) ∙ f.decided read n s g i lt
+          | inr le ↦ (let at : count + (i - count) ≡ i = omega arith in
+              let place : n + done + (i - count) - 127 ≡ n - 127 + i = omega (arith, in_all, bits_are) in
+              ap (λ k. get_or out2 k false) (sym at)
+              ∙ block-bit read n s g (omega (arith, in_all)) (i - count) (omega arith)
+              ∙ ap (decided_bit d0.rate read) place)
+        ];
+    rest = λ i l. others i (inr l) ∙ f.rest i (omega arith);
   }
 
 -- ---- a whole feed

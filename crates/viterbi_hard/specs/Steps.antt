@@ -1,5 +1,5 @@
 -- What was read of each step of the mother code: the steps' places among the read bits.
-use Rattle.std.specs.Prelude.{ℕ, zero, suc, ◌+◌, ◌%◌, ◌==◌, Bool, true, false, cond, List, [], ◌∷◌}
+use Rattle.std.specs.Prelude.{ℕ, zero, suc, ◌+◌, ◌%◌, ◌==◌, Bool, true, false, cond, List, [], ◌∷◌, slice_index_or}
 use Rattle.std.specs.List.{list_any}
 use Rattle.isdbt_base.specs.declared.kinds.Rate.{Rate}
 use Rattle.isdbt_base.specs.Numbers.{rate_steps}
@@ -52,3 +52,12 @@ received_at rate read i = received_from rate read (coded_len rate i) (i % rate_s
 abbrev pub received_steps : Rate → (ℕ → Bool) → ℕ → List Received
 received_steps rate read zero = []
 received_steps rate read (suc n) = received_at rate read n ∷ received_steps rate read n
+
+-- a step of which nothing was sent
+abbrev pub nothing : Received
+nothing = record { x = Punctured; y = Punctured }
+
+-- so many steps of a list from a place on, the newest first, behind those before
+abbrev pub pushed : List Received → ℕ → ℕ → List Received → List Received
+pushed steps at zero rs = rs
+pushed steps at (suc k) rs = slice_index_or steps (at + k) nothing ∷ pushed steps at k rs

@@ -1,15 +1,17 @@
 //! The decoder.
 
-ghost use Rattle.std.specs.Prelude.{◌≡◌, ℕ, ◌+◌, ◌-◌, ◌*◌, ◌/◌, ◌%◌, ◌<◌, ◌≤◌, Bool, false, List, ◌∷◌, length, slice_index_or};
+ghost use Rattle.std.specs.Prelude.{◌≡◌, ℕ, ◌+◌, ◌-◌, ◌*◌, ◌^◌, ◌/◌, ◌%◌, ◌<◌, ◌≤◌, ◌⊎◌, Bool, true, false, List, ◌∷◌, length, slice_index_or};
 ghost use Rattle.isdbt_base.specs.Numbers.{rate_steps, rate_bits};
 ghost use Rattle.viterbi_hard.specs.LeastPath.{decided_bit};
+ghost use Rattle.viterbi_hard.specs.States.{odd};
+ghost use Rattle.viterbi_hard.specs.Steps.{pushed};
 ghost use Rattle.viterbi_hard.specs.Trellis.{IsDecided};
 
 use crate::blocks::Blocks;
-use crate::lanes::{add_compare_select, lowered, marked};
+use crate::lanes::{add_compare_select, eight_steps, lowered, marked};
 use crate::least::{first_least, least_of_all};
 use crate::maps::OWN_LANES;
-use crate::received::{Received, received_step, used};
+use crate::received::{NOTHING, Received, expand};
 use isdbt_base::{Rate, rate_pair};
 use std::simd::prelude::*;
 
@@ -19,6 +21,21 @@ const OTHER_START: u8 = 16;
 
 /// The steps that a decided bit waits for: the traceback window is 128 steps with its own.
 const WAIT: u8 = 127;
+
+/// The steps that are expanded at a time: whole patterns at each rate.
+const MOST_STEPS: usize = 840;
+
+/// Puts the lower seven bits of a label, the highest first, to some bits from a place on.
+#[inline(always)]
+fn put_bits(label: u8, out: &mut [bool], at: usize)
+    requires { at + 7 ≤ length out.old }
+    ensures put { (j : ℕ) → j < 7 → slice_index_or out.new (at + j) false ≡ odd (label / 2 ^ (6 - j)) }
+    ensures rest { (i : ℕ) → (i < at) ⊎ (at + 7 ≤ i) → slice_index_or out.new i false ≡ slice_index_or out.old i false }
+{
+    for bit in 0..7usize {
+        out[at + bit] = (label >> (6 - bit)) % 2 == 1;
+    }
+}
 
 /// Decoder of the inner code at one rate.
 #[derive(Drop)]
@@ -38,7 +55,7 @@ pub struct Decoder {
 }
 
 impl Decoder {
-    ghost use Rattle.viterbi_hard.specs.StandsFor.{EndsBlock, FeedsTo, GoesOn, HasLabel, IsPlace, Keeps, StandsFor, rate_of, steps_in};
+    ghost use Rattle.viterbi_hard.specs.StandsFor.{AreSteps, EndsBlock, FeedsTo, GoesOn, HasLabel, Keeps, StandsFor, rate_of, steps_in};
 
     /// The decoder that read nothing: zero bits stand before the first input.
     pub fn start(rate: Rate) -> Decoder
@@ -130,28 +147,60 @@ impl Decoder {
         self.oldest_bit()
     }
 
-    /// Feeds the bits of one puncturing pattern, which begin at a place, and puts what is decided behind the first `decided`
-    /// bits of `out`. Answers where it ends.
+    /// Eight steps from a boundary on, where the oldest block is known: its bits are decided, and the first of the next.
     #[inline(always)]
-    fn feed_pattern(&mut self, bits: &[bool], at: usize, out: &mut [bool], decided: usize) -> usize
-        requires bits { at + rate_bits self.old.rate ≤ length bits.now }
-        requires room { decided + rate_steps self.old.rate ≤ length out.old }
-        ensures fed { (start : Decoder) (before : List Bool) (done : ℕ) → done % rate_steps start.rate ≡ 0 → IsPlace start.rate at done → FeedsTo start self.old bits.now before out.old decided done → FeedsTo start self.new bits.now before out.new result (done + rate_steps start.rate) }
-        ensures count { result ≤ decided + rate_steps self.old.rate }
+    fn whole_block(&mut self, steps: &[Received], at: usize, out: &mut [bool], end: usize)
+        requires steps { at + 8 ≤ length steps.now }
+        requires room { end + 8 ≤ length out.old }
+        ensures keeps { (rs : List Received) → Keeps self.old rs → self.old.age ≡ 0 → Keeps self.new (pushed steps.now at 8 rs) }
+        ensures decides { (rs : List Received) → Keeps self.old rs → self.old.age ≡ 0 → 1 ≤ self.old.traceback.known → 127 ≤ length rs → (j : ℕ) → j < 8 → IsDecided (pushed steps.now at (j + 1) rs) (slice_index_or out.new (end + j) false) }
+        ensures rest { (i : ℕ) → (i < end) ⊎ (end + 8 ≤ i) → slice_index_or out.new i false ≡ slice_index_or out.old i false }
+        ensures rate { self.new.rate ≡ self.old.rate }
+        ensures steps { self.new.steps ≡ self.old.steps }
+    {
+        let label = self.traceback.known_label();
+        let (metrics, tags) = eight_steps(self.metrics, steps, at);
+        self.metrics = metrics;
+        self.tags = tags;
+        self.end_block();
+        put_bits(label, out, end);
+        out[end + 7] = self.oldest_bit();
+    }
+
+    /// Whether so many steps are whole blocks' from a boundary on, of which all eight bits are decided and known.
+    #[inline(always)]
+    fn begins_block(&self, left: usize) -> bool
+        ensures age { result ≡ true → self.now.age ≡ 0 }
+        ensures steps { result ≡ true → 127 ≤ self.now.steps }
+        ensures known { result ≡ true → 1 ≤ self.now.traceback.known }
+        ensures left { result ≡ true → 8 ≤ left }
+    {
+        left >= 8 && self.age == 0 && self.steps >= WAIT && self.traceback.known > 0
+    }
+
+    /// Feeds steps, and puts what is decided behind the first `decided` bits of `out`. Answers where it ends.
+    fn run(&mut self, steps: &[Received], out: &mut [bool], decided: usize) -> usize
+        requires room { decided + length steps.now ≤ length out.old }
+        ensures fed { (start : Decoder) (bits before : List Bool) (done : ℕ) → AreSteps start bits steps.now done → FeedsTo start self.old bits before out.old decided done → FeedsTo start self.new bits before out.new result (done + length steps.now) }
+        ensures count { result ≤ decided + length steps.now }
         ensures rate { self.new.rate ≡ self.old.rate }
     {
-        let (steps, _) = rate_pair(self.rate);
-        let mut next = at;
         let mut end = decided;
-        for step in 0..steps {
-            let read = received_step(self.rate, bits, next, step);
-            next += used(self.rate, step);
-            let bit = self.step(read);
-            if self.steps < WAIT {
-                self.steps += 1;
+        let mut at = 0usize;
+        while at < steps.len() {
+            if self.begins_block(steps.len() - at) {
+                self.whole_block(steps, at, out, end);
+                at += 8;
+                end += 8;
             } else {
-                out[end] = bit;
-                end += 1;
+                let bit = self.step(steps[at]);
+                at += 1;
+                if self.steps < WAIT {
+                    self.steps += 1;
+                } else {
+                    out[end] = bit;
+                    end += 1;
+                }
             }
         }
         end
@@ -171,11 +220,23 @@ impl Decoder {
         ensures state { (read : ℕ → Bool) (steps : ℕ) → StandsFor self.old read steps → GoesOn (rate_of self.old) read steps bits.now → StandsFor self.new read (steps + steps_in (rate_of self.old) (length bits.now)) }
         ensures rate { rate_of self.new ≡ rate_of self.old }
     {
-        let (_, sent) = rate_pair(self.rate);
-        let pattern_bits = sent as usize;
+        let (pattern_steps, pattern_bits) = rate_pair(self.rate);
+        let patterns = bits.len() / pattern_bits as usize;
+        let most = MOST_STEPS / pattern_steps as usize;
+        let mut steps = [NOTHING; MOST_STEPS];
         let mut decided = 0usize;
-        for pattern in 0..bits.len() / pattern_bits {
-            decided = self.feed_pattern(bits, pattern * pattern_bits, out, decided);
+        let mut done = 0usize;
+        while done < patterns {
+            let count = most.min(patterns - done);
+            expand(
+                self.rate,
+                bits,
+                done * pattern_bits as usize,
+                &mut steps,
+                count,
+            );
+            decided = self.run(&steps[..count * pattern_steps as usize], out, decided);
+            done += count;
         }
         decided
     }

@@ -8,9 +8,11 @@
 //! branch into lane 2 * i + 1 from its odd state costs what the branch into lane 2 * i costs from its even state, and the
 //! other way round. Two vectors of 32 branch metrics serve all.
 
-ghost use Rattle.std.specs.Prelude.{◌≡◌, ℕ, ◌+◌, ◌-◌, ◌*◌, ◌%◌, ◌<◌, ◌≤◌, true, false, cond, nat_lt, slice_index, All};
-ghost use Rattle.viterbi_hard.specs.States.{AreLow, branch_metric_at, next_metric, next_tag, place_of, row_of};
+ghost use Rattle.std.specs.Prelude.{◌≡◌, ℕ, ◌+◌, ◌-◌, ◌*◌, ◌%◌, ◌<◌, ◌≤◌, true, false, cond, nat_lt, slice_index, All, length, List};
+ghost use Rattle.viterbi_hard.specs.Steps.{pushed};
+ghost use Rattle.viterbi_hard.specs.States.{AreLow, AreTags, Holds, branch_metric_at, next_metric, next_tag, place_of, row_of};
 
+use crate::maps::OWN_LANES;
 use crate::received::{Decision, Received};
 use std::simd::prelude::*;
 
@@ -243,4 +245,25 @@ pub fn lowered(v: u8x64, least: u8) -> u8x64
     ensures { (n : ℕ) → n < 64 → slice_index result n ≡ slice_index v n - least }
 {
     v - u8x64::splat(least)
+}
+
+/// The metrics and the tags eight steps behind a boundary, from the metrics there and the steps from a place on.
+#[inline(always)]
+pub fn eight_steps(start: u8x64, steps: &[Received], at: usize) -> (u8x64, u8x64)
+    requires { at + 8 ≤ length steps.now }
+    ensures metrics { (since : ℕ) (rs : List Received) → Holds start since rs → since ≤ 56 → Holds result.0 (since + 8) (pushed steps.now at 8 rs) }
+    ensures tags { (since : ℕ) (rs : List Received) → Holds start since rs → since ≤ 56 → AreTags result.1 8 (pushed steps.now at 8 rs) }
+{
+    let mut metrics = start;
+    let mut tags = u8x64::from_array(OWN_LANES);
+    for step in 0..8u8 {
+        let (next_metrics, next_tags) = add_compare_select(
+            metrics,
+            tags,
+            steps[at + step as usize],
+        );
+        metrics = next_metrics;
+        tags = marked(next_tags, step);
+    }
+    (metrics, tags)
 }

@@ -1,9 +1,10 @@
 //! What was read of a step: hard decisions in the places of its outputs.
 
-ghost use Rattle.std.specs.Prelude.{◌≡◌, ◌+◌, ◌≤◌, false, length, slice_index_or};
-ghost use Rattle.viterbi_hard.specs.Steps.{decision_of, received_from, sends_x, sends_y, used_at};
+ghost use Rattle.std.specs.Prelude.{◌≡◌, ℕ, ◌+◌, ◌*◌, ◌<◌, ◌≤◌, ◌⊎◌, false, length, slice_index_or};
+ghost use Rattle.isdbt_base.specs.Numbers.{rate_steps, rate_bits};
+ghost use Rattle.viterbi_hard.specs.Steps.{decision_of, nothing, received_from, sends_x, sends_y, sent_before, used_at};
 
-use isdbt_base::Rate;
+use isdbt_base::{Rate, rate_pair};
 
 /// What was read in the place of an output.
 #[derive(Clone, Copy)]
@@ -24,6 +25,12 @@ pub struct Received {
     /// In the place of Y.
     pub y: Decision,
 }
+
+/// Nothing was read.
+pub const NOTHING: Received = Received {
+    x: Decision::Punctured,
+    y: Decision::Punctured,
+};
 
 /// Whether X of a step of the puncturing pattern is sent.
 #[inline(always)]
@@ -62,7 +69,7 @@ fn hard_decision(bit: bool) -> Decision
 
 /// How many bits are sent of a step of the pattern.
 #[inline(always)]
-pub fn used(rate: Rate, step: u32) -> usize
+fn used(rate: Rate, step: u32) -> usize
     ensures { result ≡ used_at rate step }
 {
     sends_x(rate, step) as usize + sends_y(rate, step) as usize
@@ -70,7 +77,7 @@ pub fn used(rate: Rate, step: u32) -> usize
 
 /// What was read of a step of the pattern, whose bits begin at a place: X before Y.
 #[inline(always)]
-pub fn received_step(rate: Rate, bits: &[bool], at: usize, step: u32) -> Received
+fn received_step(rate: Rate, bits: &[bool], at: usize, step: u32) -> Received
     requires { at + used_at rate step ≤ length bits.now }
     ensures { result ≡ received_from rate (λ i. slice_index_or bits.now i false) at step }
 {
@@ -88,4 +95,49 @@ pub fn received_step(rate: Rate, bits: &[bool], at: usize, step: u32) -> Receive
         Decision::Punctured
     };
     Received { x, y }
+}
+
+/// Puts what was read of the steps of one pattern, whose bits begin at a place, to some steps from a place on.
+#[inline(always)]
+fn expand_pattern(rate: Rate, bits: &[bool], at: usize, steps: &mut [Received], first: usize)
+    requires bits { at + rate_bits rate ≤ length bits.now }
+    requires room { first + rate_steps rate ≤ length steps.old }
+    ensures steps { (j : ℕ) → j < rate_steps rate → slice_index_or steps.new (first + j) nothing ≡ received_from rate (λ i. slice_index_or bits.now i false) (at + sent_before rate j) j }
+    ensures others { (i : ℕ) → i < first → slice_index_or steps.new i nothing ≡ slice_index_or steps.old i nothing }
+{
+    let (count, _) = rate_pair(rate);
+    let mut next = at;
+    for step in 0..count {
+        steps[first + step as usize] = received_step(rate, bits, next, step);
+        next += used(rate, step);
+    }
+}
+
+/// Puts what was read of the steps of so many patterns, whose bits begin at a place, to the front of some steps.
+#[inline(always)]
+fn expand_at(rate: Rate, bits: &[bool], at: usize, steps: &mut [Received], count: usize)
+    requires bits { at + rate_bits rate * count ≤ length bits.now }
+    requires room { rate_steps rate * count ≤ length steps.old }
+    ensures { (q j : ℕ) → q < count → j < rate_steps rate → slice_index_or steps.new (rate_steps rate * q + j) nothing ≡ received_from rate (λ i. slice_index_or bits.now i false) (at + rate_bits rate * q + sent_before rate j) j }
+{
+    let (pattern_steps, pattern_bits) = rate_pair(rate);
+    for pattern in 0..count {
+        let next = at + pattern_bits as usize * pattern;
+        expand_pattern(rate, bits, next, steps, pattern_steps as usize * pattern);
+    }
+}
+
+/// The same, by code of its own for each rate, in which the puncturing pattern is a constant.
+pub fn expand(rate: Rate, bits: &[bool], at: usize, steps: &mut [Received], count: usize)
+    requires bits { at + rate_bits rate * count ≤ length bits.now }
+    requires room { rate_steps rate * count ≤ length steps.old }
+    ensures { (q j : ℕ) → q < count → j < rate_steps rate → slice_index_or steps.new (rate_steps rate * q + j) nothing ≡ received_from rate (λ i. slice_index_or bits.now i false) (at + rate_bits rate * q + sent_before rate j) j }
+{
+    match rate {
+        Rate::R12 => expand_at(Rate::R12, bits, at, steps, count),
+        Rate::R23 => expand_at(Rate::R23, bits, at, steps, count),
+        Rate::R34 => expand_at(Rate::R34, bits, at, steps, count),
+        Rate::R56 => expand_at(Rate::R56, bits, at, steps, count),
+        Rate::R78 => expand_at(Rate::R78, bits, at, steps, count),
+    }
 }

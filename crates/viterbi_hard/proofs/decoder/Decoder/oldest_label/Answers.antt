@@ -1,10 +1,10 @@
 use Rattle.std.proofs.Common.{◌+◌, ◌*◌, arith, drop}
-use Rattle.viterbi_hard.proofs.ChosenLaws.{chosen_first, label_found, label_known}
+use Rattle.viterbi_hard.proofs.ChosenLaws.{chosen_first, label_ahead, label_found}
 use Rattle.viterbi_hard.proofs.decoder.Decoder.oldest_label.Goals as goal
 
 pub returns-then-self-gt0 : goal.returns-then-self-gt0
 returns-then-self-gt0 c = λ rs k.
-    label_known c.known_label.result c.args.self.now.age c.args.self.now.tags rs k.tags (c.known_label.ensures (drop c.args.self.now.age rs) k.traced (omega (arith, c.if-self-gt0.true)))
+    label_ahead c.known_label.result c.args.self.now.age rs (c.known_label.ensures (drop c.args.self.now.age rs) k.traced (omega (arith, c.if-self-gt0.true)))
 
 pub returns-else-self-gt0 : goal.returns-else-self-gt0
 returns-else-self-gt0 c = λ rs k.
