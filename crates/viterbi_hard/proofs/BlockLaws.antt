@@ -1,5 +1,6 @@
 -- The blocks: maps composed, labels that are known, and one block more.
-use Rattle.std.proofs.Common.{◌≡◌, ◌≢◌, ℕ, zero, suc, ◌+◌, ◌*◌, ◌/◌, ◌%◌, ◌<◌, ◌≤◌, List, [], true, length, drop, get_or, set, eqb, refl, subst, ap, sym, ◌∙◌, arith, get_or-set_same, get_or-set_other}
+use Rattle.std.proofs.Common.{◌≡◌, ◌≢◌, ℕ, zero, suc, ◌+◌, ◌*◌, ◌/◌, ◌%◌, ◌<◌, ◌≤◌, List, [], true, length, drop, get_or, set, eqb, refl, subst, ap, sym, ◌∙◌, arith, get_or-set_same, get_or-set_other, ◌-◌, inl, inr}
+use Rattle.std.proofs.Math.Nat.{eq-or-lt_of_le}
 use Rattle.std.proofs.lemmas.Bool.{agree_below_at, eqb-true}
 use Rattle.std.proofs.lemmas.List.{drop-drop}
 use Rattle.viterbi_hard.specs.declared.maps.TheConstants.{OWN_LANES}
@@ -7,7 +8,7 @@ use Rattle.viterbi_hard.specs.declared.received.Received.{Received}
 use Rattle.viterbi_hard.specs.declared.blocks.Blocks.{Blocks}
 use Rattle.viterbi_hard.specs.Trellis.{newest_state}
 use Rattle.viterbi_hard.specs.States.{AreTags, IsLabel, IsTag, path_at, state_of}
-use Rattle.viterbi_hard.specs.Blocks.{AllLead, AreKnown, HasMaps, Lead, Leads, Traced, place_back}
+use Rattle.viterbi_hard.specs.Blocks.{AllLead, AreKnown, AreLabels, HasKept, HasMaps, Lead, Leads, Traced, place_back}
 use Rattle.viterbi_hard.proofs.StateLaws.{state_mod}
 use Rattle.viterbi_hard.proofs.PathLaws.{label_back, label_here, label_of_tag, state_back}
 
@@ -70,21 +71,68 @@ lead_all blocks rs b end tag new maps h lead t e n lt =
     subst (λ m. Leads new m (path_at rs n)) (eight_more b)
     (subst (λ v. Leads v (8 * b + 8) (path_at rs n)) (sym e) (lead_more rs n end (8 * b) tag here is))
 
+pub place_other : (oldest a b : ℕ) → a < 16 → b < 16 → a ≢ b → place_back oldest a ≢ place_back oldest b
+place_other oldest a b h k ne = omega arith
+
 -- each survivor's own label
-pub label_each : (blocks : Blocks) (rs : List Received) (lanes tags labels : List ℕ) → HasMaps blocks rs → Lead lanes 120 rs
-    → ((n : ℕ) → n < 64 → get_or tags n 0 ≡ get_or (get_or blocks.maps (blocks.oldest % 16) []) (get_or lanes n 0 % 64) 0)
+pub label_each : (blocks : Blocks) (rs : List Received) (b : ℕ) (lanes tags labels : List ℕ) → HasMaps blocks rs → b < 16 → Lead lanes (8 * b) rs
+    → ((n : ℕ) → n < 64 → get_or tags n 0 ≡ get_or (get_or blocks.maps (place_back blocks.oldest b) []) (get_or lanes n 0 % 64) 0)
     → ((n : ℕ) → n < 64 → get_or lanes n 0 < 64 → get_or labels n 0 ≡ get_or lanes n 0 + 64 * (get_or tags n 0 / 64))
-    → (n : ℕ) → n < 64 → IsLabel (get_or labels n 0) (drop 120 (path_at rs n))
-label_each blocks rs lanes tags labels maps lead t e n lt =
+    → AreLabels labels b rs
+label_each blocks rs b lanes tags labels maps h lead t e n lt =
     let here = lead n lt in
     let same : get_or lanes n 0 % 64 ≡ get_or lanes n 0 = omega (arith, here.low) in
+    let tag : IsTag (get_or tags n 0) 8 (path_at (drop (8 * b) rs) (get_or lanes n 0)) =
+    subst (λ v. IsTag v 8 (path_at (drop (8 * b) rs) (get_or lanes n 0))) (sym (t n lt ∙ ap (λ k. get_or (get_or blocks.maps (place_back blocks.oldest b) []) k 0) same))
+    (maps b h (get_or lanes n 0) here.low) in
+    subst (λ v. IsLabel v (drop (8 * b) (path_at rs n))) (sym (e n lt here.low))
+    (label_here (8 * b) rs n (get_or lanes n 0) here.state _ (label_of_tag (get_or lanes n 0) (get_or tags n 0) (drop (8 * b) rs) here.low tag))
+
+-- put to those that are kept
+pub kept_set : (oldest place back : ℕ) (kept : List (List ℕ)) (labels : List ℕ) (rs : List Received) → length kept ≡ 16 → place ≡ place_back oldest back → back < 16
+    → ((b : ℕ) → b < back → AreLabels (get_or kept (place_back oldest b) []) b rs) → AreLabels labels back rs
+    → (b : ℕ) → b < back + 1 → AreLabels (get_or (set kept place labels) (place_back oldest b) []) b rs
+kept_set oldest place back kept labels rs long e h others own b lt =
+    let upto : b ≤ back = omega arith in
+    elim (eq-or-lt_of_le upto) [
+      | inl same ↦
+          let at : place_back oldest b ≡ place = ap (place_back oldest) same ∙ sym e in
+          let within : place < length kept = omega (arith, e, long) in
+          let is : get_or (set kept place labels) (place_back oldest b) [] ≡ labels = ap (λ k. get_or (set kept place labels) k []) at ∙ get_or-set_same kept place labels [] within in
+          subst (λ l. AreLabels l b rs) (sym is) (subst (λ k. AreLabels labels k rs) (sym same) own)
+      | inr l ↦
+          let apart : place_back oldest b ≢ place_back oldest back = place_other oldest b back (omega arith) h (omega arith) in
+          let ne : place_back oldest b ≢ place = omega (arith, e) in
+          subst (λ l. AreLabels l b rs) (sym (get_or-set_other kept place (place_back oldest b) labels [] ne)) (others b l)
+    ]
+
+-- the oldest block's, found by the lane in front
+pub kept_oldest : (blocks : Blocks) (rs : List Received) (labels : List ℕ) → HasKept blocks rs → 1 ≤ blocks.kept.left
+    → ((n : ℕ) → n < 64 → get_or labels n 0 ≡ get_or (get_or blocks.kept.labels (blocks.oldest % 16) []) (get_or blocks.kept.front n 0 % 64) 0)
+    → AreLabels labels 15 rs
+kept_oldest blocks rs labels kept le e n h =
     let place : blocks.oldest % 16 ≡ place_back blocks.oldest 15 = omega arith in
-    let own : get_or tags n 0 ≡ get_or (get_or blocks.maps (place_back blocks.oldest 15) []) (get_or lanes n 0) 0 =
-    t n lt ∙ ap (λ k. get_or (get_or blocks.maps k []) (get_or lanes n 0 % 64) 0) place ∙ ap (λ k. get_or (get_or blocks.maps (place_back blocks.oldest 15) []) k 0) same in
-    let tag : IsTag (get_or tags n 0) 8 (path_at (drop 120 rs) (get_or lanes n 0)) =
-    subst (λ v. IsTag v 8 (path_at (drop 120 rs) (get_or lanes n 0))) (sym own) (maps 15 (omega arith) (get_or lanes n 0) here.low) in
-    subst (λ v. IsLabel v (drop 120 (path_at rs n))) (sym (e n lt here.low))
-    (label_here 120 rs n (get_or lanes n 0) here.state _ (label_of_tag (get_or lanes n 0) (get_or tags n 0) (drop 120 rs) here.low tag))
+    subst (λ v. IsLabel v (drop 120 (path_at rs n))) (sym (e n h ∙ ap (λ k. get_or (get_or blocks.kept.labels k []) (get_or blocks.kept.front n 0 % 64) 0) place))
+    (kept 15 (omega arith) (omega arith) n h)
+
+-- where they are one for all lanes
+pub kept_equal : (blocks : Blocks) (rs : List Received) (labels : List ℕ) → AreLabels labels 15 rs → ((n : ℕ) → n < 64 → get_or labels n 0 ≡ get_or labels 0 0) → length blocks.labels ≡ 16
+    → (b : ℕ) → b < 16 → 16 ≤ b + 1 → AreKnown (get_or (set blocks.labels (blocks.oldest % 16) (get_or labels 0 0)) (place_back blocks.oldest b) 0) b rs
+kept_equal blocks rs labels f e long b h le n lt =
+    let last : 15 ≡ b = omega arith in
+    let place : place_back blocks.oldest b ≡ blocks.oldest % 16 = omega arith in
+    let within : blocks.oldest % 16 < length blocks.labels = omega (arith, long) in
+    let is : get_or (set blocks.labels (blocks.oldest % 16) (get_or labels 0 0)) (place_back blocks.oldest b) 0 ≡ get_or labels n 0 =
+    ap (λ k. get_or (set blocks.labels (blocks.oldest % 16) (get_or labels 0 0)) k 0) place ∙ get_or-set_same blocks.labels (blocks.oldest % 16) (get_or labels 0 0) 0 within ∙ sym (e n lt) in
+    subst (λ v. IsLabel v (drop (8 * b) (path_at rs n))) (sym is) (subst (λ m. IsLabel (get_or labels n 0) (drop (8 * m) (path_at rs n))) last (f n lt))
+
+-- just read
+pub kept_read : (old new : Blocks) (rs : List Received) → ((b : ℕ) → b < 16 → AreLabels (get_or new.kept.labels (place_back old.oldest b) []) b rs) → new.oldest ≡ old.oldest → new.kept.front ≡ OWN_LANES → HasKept new rs
+kept_read old new rs f o e b h le n lt =
+    let own : get_or new.kept.front n 0 % 64 ≡ n = omega (arith, ap (λ l. get_or l n 0) e, own_lane n lt) in
+    let place : place_back old.oldest b ≡ place_back new.oldest b = ap (λ k. place_back k b) (sym o) in
+    subst (λ k. IsLabel (get_or (get_or new.kept.labels (place_back new.oldest b) []) k 0) (drop (8 * b) (path_at rs n))) (sym own)
+    (subst (λ k. IsLabel (get_or (get_or new.kept.labels k []) n 0) (drop (8 * b) (path_at rs n))) place (f b h n lt))
 
 -- ---- one block more
 
@@ -93,9 +141,6 @@ place_next oldest b h = omega arith
 
 pub place_new : (oldest : ℕ) → place_back ((oldest % 16 + 1) % 16) 0 ≡ oldest % 16
 place_new oldest = omega arith
-
-pub place_other : (oldest a b : ℕ) → a < 16 → b < 16 → a ≢ b → place_back oldest a ≢ place_back oldest b
-place_other oldest a b h k ne = omega arith
 
 drop_eight : (rs : List Received) (b : ℕ) → drop (8 * b) (drop 8 rs) ≡ drop (8 * suc b) rs
 drop_eight rs b = let place : 8 + 8 * b ≡ 8 * suc b = omega arith in drop-drop (8 * b) 8 rs ∙ ap (λ m. drop m rs) place
@@ -139,3 +184,22 @@ pub maps_same : (old new : Blocks) (rs : List Received) → new.maps ≡ old.map
 maps_same old new rs m o maps b h =
     subst (λ l. AreTags (get_or l (place_back new.oldest b) []) 8 (drop (8 * b) rs)) (sym m)
     (subst (λ k. AreTags (get_or old.maps (place_back k b) []) 8 (drop (8 * b) rs)) (sym o) (maps b h))
+
+pub kept_next : (old new : Blocks) (rs : List Received) (tags : List ℕ) → HasKept old (drop 8 rs) → old.kept.left ≤ 16 → AreTags tags 8 rs
+    → new.oldest ≡ (old.oldest % 16 + 1) % 16 → new.kept.left ≡ old.kept.left - 1 → new.kept.labels ≡ old.kept.labels
+    → (1 ≤ old.kept.left → (n : ℕ) → n < 64 → get_or new.kept.front n 0 ≡ get_or old.kept.front (get_or tags n 0 % 64) 0)
+    → HasKept new rs
+kept_next old new rs tags k short t o left same front zero h le n lt = absurd (omega arith)
+kept_next old new rs tags k short t o left same front (suc b) h le n lt =
+    let place : place_back new.oldest (suc b) ≡ place_back old.oldest b = ap (λ k. place_back k (suc b)) o ∙ place_next old.oldest b (omega arith) in
+    let lane : get_or new.kept.front n 0 % 64 ≡ get_or old.kept.front (get_or tags n 0 % 64) 0 % 64 = ap (λ m. m % 64) (front (omega (arith, left)) n lt) in
+    let is : get_or (get_or new.kept.labels (place_back new.oldest (suc b)) []) (get_or new.kept.front n 0 % 64) 0 ≡ get_or (get_or old.kept.labels (place_back old.oldest b) []) (get_or old.kept.front (get_or tags n 0 % 64) 0 % 64) 0 =
+    ap (λ l. get_or (get_or l (place_back new.oldest (suc b)) []) (get_or new.kept.front n 0 % 64) 0) same
+    ∙ ap (λ m. get_or (get_or old.kept.labels m []) (get_or new.kept.front n 0 % 64) 0) place
+    ∙ ap (λ m. get_or (get_or old.kept.labels (place_back old.oldest b) []) m 0) lane in
+    let tag = t n lt in
+    let back : 8 + 8 * b ≡ 8 * suc b = omega arith in
+    let e : state_of (get_or tags n 0 % 64) ≡ newest_state (drop 8 (path_at rs n)) = state_mod (get_or tags n 0) ∙ tag.state in
+    subst (λ v. IsLabel v (drop (8 * suc b) (path_at rs n))) (sym is)
+    (subst (λ m. IsLabel (get_or (get_or old.kept.labels (place_back old.oldest b) []) (get_or old.kept.front (get_or tags n 0 % 64) 0 % 64) 0) (drop m (path_at rs n))) back
+    (label_back 8 rs n (get_or tags n 0 % 64) e (8 * b) _ (k b (omega arith) (omega (arith, left)) (get_or tags n 0 % 64) (omega arith))))

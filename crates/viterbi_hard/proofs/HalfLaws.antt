@@ -1,7 +1,7 @@
 -- Selecting by a comparison, and the least lane by halves.
-use Rattle.std.proofs.Common.{◌≡◌, ℕ, ◌+◌, ◌-◌, ◌++◌, get_or, ◌<◌, ◌≤◌, ◌^◌, inl, inr, Bool, true, false, cond, List, length, map, refl, ◌∙◌, ap, sym, arith, w8, length-append, Contains, All}
+use Rattle.std.proofs.Common.{◌≡◌, ℕ, ◌+◌, ◌-◌, ◌++◌, get_or, ◌<◌, ◌≤◌, ◌^◌, inl, inr, Bool, true, false, cond, List, length, map, refl, ◌∙◌, ap, sym, arith, w8, leb, length-append, Contains, All}
 use Rattle.std.specs.Prelude.{nat_lt}
-use Rattle.std.proofs.lemmas.Bool.{cases_lt, ltb-true, ltb-false}
+use Rattle.std.proofs.lemmas.Bool.{cases_lt, leb-true, leb-false, ltb-true, ltb-false}
 use Rattle.std.proofs.lemmas.List.{get_or_append_left, get_or_default}
 use Rattle.std.proofs.lemmas.Simd.{tops_compared, get_or-sel_l, get_or-zip2, length-zip2, length-sel_l, pick_l-range_with_len, get_or-chunk, length-chunk}
 use Rattle.std.specs.List.{range_with_len}
@@ -107,3 +107,13 @@ cond_swap a b = by_case a b (nat_lt a b) (nat_lt b a) refl refl
     by_case a b true false e f = refl
     by_case a b false true e f = refl
     by_case a b false false e f = let l : b ≤ a = ltb-false a b e in let k : a ≤ b = ltb-false b a f in omega arith
+
+-- the one, where it is no more than the other
+pub cond_turned : (a b x y : ℕ) → cond (leb a b) x y ≡ cond (nat_lt b a) y x
+cond_turned a b x y = by_case (leb a b) (nat_lt b a) refl refl
+  where
+    by_case : (s t : Bool) → leb a b ≡ s → nat_lt b a ≡ t → cond s x y ≡ cond t y x
+    by_case true true e f = let l : a ≤ b = leb-true a b e in let k : b < a = ltb-true b a f in absurd (omega arith)
+    by_case true false e f = refl
+    by_case false true e f = refl
+    by_case false false e f = let l : b < a = leb-false a b e in let k : a ≤ b = ltb-false b a f in absurd (omega arith)

@@ -33,8 +33,8 @@ zero_tag n = record { state = refl; first = λ le. refl; second = λ le. refl; y
 zero_label : (n : ℕ) → IsLabel 0 (drop 120 (path_at [] n))
 zero_label n j h = ap odd (zero-div (2 ^ j))
 
-pub nothing_traced : (blocks : Blocks) → blocks.maps ≡ replicate 16 (replicate 64 0) → blocks.known ≡ 0 → blocks.table ≡ replicate 64 0 → Traced blocks []
-nothing_traced blocks m e t = record {
+pub nothing_traced : (blocks : Blocks) → blocks.maps ≡ replicate 16 (replicate 64 0) → blocks.known ≡ 0 → blocks.table ≡ replicate 64 0 → blocks.kept.left ≡ 0 → Traced blocks []
+nothing_traced blocks m e t l = record {
   maps = λ b h n lt.
       let place : place_back blocks.oldest b < 16 = omega arith in
       let none : get_or (get_or blocks.maps (place_back blocks.oldest b) []) n 0 ≡ 0 =
@@ -45,4 +45,6 @@ nothing_traced blocks m e t = record {
   few = omega arith;
   labels = λ b h le. absurd (omega arith);
   table = λ z n h. subst (λ v. IsLabel v (drop 120 (path_at [] n))) (sym (ap (λ l. get_or l n 0) t ∙ get_or-replicate {A = ℕ} 64 n 0 0 h)) (zero_label n);
+  short = omega arith;
+  kept = λ b h le. absurd (omega arith);
 }

@@ -29,9 +29,19 @@ AllLead lane m rs = (n : ℕ) → n < 64 → Leads lane m (path_at rs n)
 abbrev pub AreKnown : ℕ → ℕ → List Received → Type 0
 AreKnown label b rs = (n : ℕ) → n < 64 → IsLabel label (drop (8 * b) (path_at rs n))
 
+-- of each survivor this is its label so many blocks back
+abbrev pub AreLabels : List ℕ → ℕ → List Received → Type 0
+AreLabels labels b rs = (n : ℕ) → n < 64 → IsLabel (get_or labels n 0) (drop (8 * b) (path_at rs n))
+
+-- the labels that are kept, found by the lane in front
+abbrev pub HasKept : Blocks → List Received → Type 0
+HasKept blocks rs = (b : ℕ) → b < 16 → 16 ≤ b + blocks.kept.left → (n : ℕ) → n < 64 → IsLabel (get_or (get_or blocks.kept.labels (place_back blocks.oldest b) []) (get_or blocks.kept.front n 0 % 64) 0) (drop (8 * b) (path_at rs n))
+
 -- the blocks are those that the steps rs leave, the newest first
 pub record Traced (blocks : Blocks) (rs : List Received) : Type 0 where
   pub maps : HasMaps blocks rs
   pub few : blocks.known ≤ 16
   pub labels : (b : ℕ) → b < 16 → 16 ≤ b + blocks.known → AreKnown (get_or blocks.labels (place_back blocks.oldest b) 0) b rs
-  pub table : blocks.known ≡ 0 → (n : ℕ) → n < 64 → IsLabel (get_or blocks.table n 0) (drop 120 (path_at rs n))
+  pub table : blocks.known ≡ 0 → AreLabels blocks.table 15 rs
+  pub short : blocks.kept.left ≤ 16
+  pub kept : HasKept blocks rs

@@ -156,7 +156,7 @@ fn surviving_metrics(even: u8x32, odd: u8x32) -> u8x32
 fn surviving_tags(even: u8x32, odd: u8x32, even_tags: u8x32, odd_tags: u8x32) -> u8x32
     ensures { (i : ℕ) → i < 32 → slice_index result i ≡ cond (nat_lt (slice_index odd i) (slice_index even i)) (slice_index odd_tags i) (slice_index even_tags i) }
 {
-    odd.simd_lt(even).select(odd_tags, even_tags)
+    even.simd_le(odd).select(even_tags, odd_tags)
 }
 
 /// The lanes of even states before a step.

@@ -16,6 +16,7 @@
 
 mod blocks;
 mod decoder;
+mod kept;
 mod lanes;
 mod laws;
 mod least;

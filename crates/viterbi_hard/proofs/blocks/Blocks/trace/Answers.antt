@@ -62,5 +62,7 @@ returns c = record {
     few = omega arith;
     labels = λ b h le. c.loop-block.invariant.set rs maps lead b (omega arith) (omega arith);
     table = λ none. absurd (omega arith);
+    short = omega arith;
+    kept = λ b h le. absurd (omega arith);
   };
 }
