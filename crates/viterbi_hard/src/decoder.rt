@@ -1,14 +1,15 @@
 //! The decoder.
 
-ghost use Rattle.std.specs.Prelude.{◌≡◌, ℕ, ◌+◌, ◌-◌, ◌*◌, ◌^◌, ◌/◌, ◌%◌, ◌<◌, ◌≤◌, ◌⊎◌, Bool, true, false, List, ◌∷◌, length, slice_index_or};
+ghost use Rattle.std.specs.Prelude.{◌≡◌, ℕ, ◌+◌, ◌-◌, ◌*◌, ◌^◌, ◌/◌, ◌%◌, ◌<◌, ◌≤◌, ◌⊎◌, Bool, true, false, List, ◌∷◌, drop, length, slice_index_or};
 ghost use Rattle.isdbt_base.specs.Numbers.{rate_steps, rate_bits};
 ghost use Rattle.viterbi_hard.specs.LeastPath.{decided_bit};
-ghost use Rattle.viterbi_hard.specs.States.{odd};
+ghost use Rattle.viterbi_hard.specs.Blocks.{Traced};
+ghost use Rattle.viterbi_hard.specs.States.{AreTags, Holds, odd};
 ghost use Rattle.viterbi_hard.specs.Steps.{pushed};
 ghost use Rattle.viterbi_hard.specs.Trellis.{IsDecided};
 
 use crate::blocks::Blocks;
-use crate::lanes::{add_compare_select, eight_steps, lowered, marked};
+use crate::lanes::{eight_steps, lowered, next_step};
 use crate::least::{first_least, least_of_all};
 use crate::maps::OWN_LANES;
 use crate::received::{NOTHING, Received, expand};
@@ -40,13 +41,13 @@ fn put_bits(label: u8, out: &mut [bool], at: usize)
 /// Decoder of the inner code at one rate.
 #[derive(Drop)]
 pub struct Decoder {
-    rate: Rate,
-    /// The steps so far, at most `WAIT`.
-    steps: u8,
     /// Lane n: the path metric of the survivor of lane n's state, less a number that all lanes share.
     metrics: u8x64,
     /// Lane n: where that survivor was at the last boundary, and the first two bits behind it.
     tags: u8x64,
+    rate: Rate,
+    /// The steps so far, at most `WAIT`.
+    steps: u8,
     /// The steps since the last boundary.
     age: u8,
     /// The blocks since the metrics were lowered.
@@ -103,9 +104,9 @@ impl Decoder {
         ensures rate { self.new.rate ≡ self.old.rate }
         ensures steps { self.new.steps ≡ self.old.steps }
     {
-        let (metrics, tags) = add_compare_select(self.metrics, self.tags, received);
+        let (metrics, tags) = next_step(self.metrics, self.tags, self.age, received);
         self.metrics = metrics;
-        self.tags = marked(tags, self.age);
+        self.tags = tags;
         if self.age < 7 {
             self.age += 1;
         } else {
@@ -113,8 +114,16 @@ impl Decoder {
         }
     }
 
-    /// The label of the block that holds the decided bit, sixteen blocks before the one in work: where it is not known for all
-    /// survivors, that of the least path.
+    /// The label of the oldest block on the least path, where it is not known for all survivors: by the lane of least metric.
+    #[inline(always)]
+    fn searched_label(&self, metrics: u8x64, tags: u8x64) -> u8
+        ensures { (since age : ℕ) (rs : List Received) → Holds metrics since rs → AreTags tags age rs → Traced self.now.traceback (drop age rs) → self.now.traceback.known ≡ 0 → HasLabel result age rs }
+    {
+        let all = tags.to_array();
+        self.traceback.label_from(all[first_least(metrics)])
+    }
+
+    /// The label of the block that holds the decided bit, sixteen blocks before the one in work.
     #[inline(always)]
     fn oldest_label(&self) -> u8
         ensures { (rs : List Received) → Keeps self.now rs → HasLabel result self.now.age rs }
@@ -122,8 +131,7 @@ impl Decoder {
         if self.traceback.known > 0 {
             self.traceback.known_label()
         } else {
-            let tags = self.tags.to_array();
-            self.traceback.label_from(tags[first_least(self.metrics)])
+            self.searched_label(self.metrics, self.tags)
         }
     }
 
@@ -149,7 +157,7 @@ impl Decoder {
 
     /// Eight steps from a boundary on, where the oldest block is known: its bits are decided, and the first of the next.
     #[inline(always)]
-    fn whole_block(&mut self, steps: &[Received], at: usize, out: &mut [bool], end: usize)
+    fn known_block(&mut self, steps: &[Received], at: usize, out: &mut [bool], end: usize)
         requires steps { at + 8 ≤ length steps.now }
         requires room { end + 8 ≤ length out.old }
         ensures keeps { (rs : List Received) → Keeps self.old rs → self.old.age ≡ 0 → Keeps self.new (pushed steps.now at 8 rs) }
@@ -167,15 +175,64 @@ impl Decoder {
         out[end + 7] = self.oldest_bit();
     }
 
-    /// Whether so many steps are whole blocks' from a boundary on, of which all eight bits are decided and known.
+    /// The same where the oldest block is not known: each of its bits is searched for.
+    #[inline(always)]
+    fn searched_block(&mut self, steps: &[Received], at: usize, out: &mut [bool], end: usize)
+        requires steps { at + 8 ≤ length steps.now }
+        requires room { end + 8 ≤ length out.old }
+        ensures keeps { (rs : List Received) → Keeps self.old rs → self.old.age ≡ 0 → Keeps self.new (pushed steps.now at 8 rs) }
+        ensures decides { (rs : List Received) → Keeps self.old rs → self.old.age ≡ 0 → self.old.traceback.known ≡ 0 → 127 ≤ length rs → (j : ℕ) → j < 8 → IsDecided (pushed steps.now at (j + 1) rs) (slice_index_or out.new (end + j) false) }
+        ensures rest { (i : ℕ) → (i < end) ⊎ (end + 8 ≤ i) → slice_index_or out.new i false ≡ slice_index_or out.old i false }
+        ensures rate { self.new.rate ≡ self.old.rate }
+        ensures steps { self.new.steps ≡ self.old.steps }
+    {
+        let mut metrics = self.metrics;
+        let mut tags = u8x64::from_array(OWN_LANES);
+        for step in 0..7u8 {
+            let (next_metrics, next_tags) = next_step(
+                metrics,
+                tags,
+                step,
+                steps[at + step as usize],
+            );
+            metrics = next_metrics;
+            tags = next_tags;
+            let label = self.searched_label(metrics, tags);
+            out[end + step as usize] = (label >> (6 - step)) % 2 == 1;
+        }
+        let (last_metrics, last_tags) = next_step(metrics, tags, 7, steps[at + 7]);
+        self.metrics = last_metrics;
+        self.tags = last_tags;
+        self.end_block();
+        out[end + 7] = self.oldest_bit();
+    }
+
+    /// Whether so many steps are a whole block and more, from a boundary on, of which all eight bits are decided.
     #[inline(always)]
     fn begins_block(&self, left: usize) -> bool
         ensures age { result ≡ true → self.now.age ≡ 0 }
         ensures steps { result ≡ true → 127 ≤ self.now.steps }
-        ensures known { result ≡ true → 1 ≤ self.now.traceback.known }
         ensures left { result ≡ true → 8 ≤ left }
     {
-        left >= 8 && self.age == 0 && self.steps >= WAIT && self.traceback.known > 0
+        left >= 8 && self.age == 0 && self.steps >= WAIT
+    }
+
+    /// A whole block.
+    #[inline(always)]
+    fn feed_block(&mut self, steps: &[Received], at: usize, out: &mut [bool], end: usize)
+        requires steps { at + 8 ≤ length steps.now }
+        requires room { end + 8 ≤ length out.old }
+        ensures keeps { (rs : List Received) → Keeps self.old rs → self.old.age ≡ 0 → Keeps self.new (pushed steps.now at 8 rs) }
+        ensures decides { (rs : List Received) → Keeps self.old rs → self.old.age ≡ 0 → 127 ≤ length rs → (j : ℕ) → j < 8 → IsDecided (pushed steps.now at (j + 1) rs) (slice_index_or out.new (end + j) false) }
+        ensures rest { (i : ℕ) → (i < end) ⊎ (end + 8 ≤ i) → slice_index_or out.new i false ≡ slice_index_or out.old i false }
+        ensures rate { self.new.rate ≡ self.old.rate }
+        ensures steps { self.new.steps ≡ self.old.steps }
+    {
+        if self.traceback.known > 0 {
+            self.known_block(steps, at, out, end);
+        } else {
+            self.searched_block(steps, at, out, end);
+        }
     }
 
     /// Feeds steps, and puts what is decided behind the first `decided` bits of `out`. Answers where it ends.
@@ -189,7 +246,7 @@ impl Decoder {
         let mut at = 0usize;
         while at < steps.len() {
             if self.begins_block(steps.len() - at) {
-                self.whole_block(steps, at, out, end);
+                self.feed_block(steps, at, out, end);
                 at += 8;
                 end += 8;
             } else {

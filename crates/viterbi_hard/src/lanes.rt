@@ -8,7 +8,7 @@
 //! branch into lane 2 * i + 1 from its odd state costs what the branch into lane 2 * i costs from its even state, and the
 //! other way round. Two vectors of 32 branch metrics serve all.
 
-ghost use Rattle.std.specs.Prelude.{◌≡◌, ℕ, ◌+◌, ◌-◌, ◌*◌, ◌%◌, ◌<◌, ◌≤◌, true, false, cond, nat_lt, slice_index, All, length, List};
+ghost use Rattle.std.specs.Prelude.{◌≡◌, ℕ, ◌+◌, ◌-◌, ◌*◌, ◌%◌, ◌<◌, ◌≤◌, true, false, cond, nat_lt, ◌∷◌, slice_index, All, length, List};
 ghost use Rattle.viterbi_hard.specs.Steps.{pushed};
 ghost use Rattle.viterbi_hard.specs.States.{AreLow, AreTags, Holds, branch_metric_at, next_metric, next_tag, place_of, row_of};
 
@@ -195,7 +195,7 @@ fn woven(zeros: u8x32, ones: u8x32) -> u8x64
 /// The metrics and the tags one step on: to the metrics of the even and of the odd states before the branch metrics are
 /// added, the two are compared, and the survivor's metric and tag are selected.
 #[inline(always)]
-pub fn add_compare_select(metrics: u8x64, tags: u8x64, received: Received) -> (u8x64, u8x64)
+fn add_compare_select(metrics: u8x64, tags: u8x64, received: Received) -> (u8x64, u8x64)
     ensures metrics { AreLow metrics → (n : ℕ) → n < 64 → slice_index result.0 n ≡ next_metric received metrics n }
     ensures tags { AreLow metrics → (n : ℕ) → n < 64 → slice_index result.1 n ≡ next_tag received metrics tags n }
 {
@@ -228,7 +228,7 @@ static FIRST_BITS: [u8; 64] = [
 /// The tags one step on, where `age` steps came before behind the boundary: at the second step the first two bits of the
 /// block, which are then the two newest of each lane, are put to them.
 #[inline(always)]
-pub fn marked(tags: u8x64, age: u8) -> u8x64
+fn marked(tags: u8x64, age: u8) -> u8x64
     ensures second { age ≡ 1 → (n : ℕ) → n < 64 → slice_index tags n < 64 → slice_index result n ≡ slice_index tags n + 64 * (n % 4) }
     ensures other { (age ≡ 1 → ⊥) → result ≡ tags }
 {
@@ -247,6 +247,17 @@ pub fn lowered(v: u8x64, least: u8) -> u8x64
     v - u8x64::splat(least)
 }
 
+/// The metrics and the tags one step on, where `age` steps came before behind the boundary.
+#[inline(always)]
+pub fn next_step(metrics: u8x64, tags: u8x64, age: u8, received: Received) -> (u8x64, u8x64)
+    ensures metrics { (since : ℕ) (rs : List Received) → Holds metrics since rs → since < 64 → Holds result.0 (since + 1) (received ∷ rs) }
+    ensures tags { (since : ℕ) (rs : List Received) → Holds metrics since rs → since < 64 → AreTags tags age rs → AreTags result.1 (age + 1) (received ∷ rs) }
+{
+    let (next_metrics, next_tags) = add_compare_select(metrics, tags, received);
+    let new_tags = marked(next_tags, age);
+    (next_metrics, new_tags)
+}
+
 /// The metrics and the tags eight steps behind a boundary, from the metrics there and the steps from a place on.
 #[inline(always)]
 pub fn eight_steps(start: u8x64, steps: &[Received], at: usize) -> (u8x64, u8x64)
@@ -257,13 +268,9 @@ pub fn eight_steps(start: u8x64, steps: &[Received], at: usize) -> (u8x64, u8x64
     let mut metrics = start;
     let mut tags = u8x64::from_array(OWN_LANES);
     for step in 0..8u8 {
-        let (next_metrics, next_tags) = add_compare_select(
-            metrics,
-            tags,
-            steps[at + step as usize],
-        );
+        let (next_metrics, next_tags) = next_step(metrics, tags, step, steps[at + step as usize]);
         metrics = next_metrics;
-        tags = marked(next_tags, step);
+        tags = next_tags;
     }
     (metrics, tags)
 }

@@ -1,8 +1,7 @@
 use Rattle.std.proofs.Common.{◌≡◌, ◌+◌, arith, subst, sym, add-one, add-zero}
-use Rattle.viterbi_hard.specs.States.{AreLow, AreTags, Holds}
+use Rattle.viterbi_hard.specs.States.{AreTags, Holds}
 use Rattle.viterbi_hard.specs.Steps.{pushed}
 use Rattle.viterbi_hard.proofs.BlockLaws.{own_tags}
-use Rattle.viterbi_hard.proofs.PathLaws.{are_low, holds_next, tags_after}
 use Rattle.viterbi_hard.proofs.lanes.eight_steps.Goals as goal
 
 pub loop-step-init : goal.loop-step-init
@@ -15,15 +14,12 @@ pub loop-step-preserved : goal.loop-step-preserved
 loop-step-preserved c = record {
   metrics = λ since rs k le.
       let on : since + c.loop-step.step + 1 ≡ since + (c.loop-step.step + 1) = omega arith in
-      let held = c.loop-step.invariant.metrics since rs k le in
-      let low : AreLow c.loop-step.metrics = are_low c.loop-step.metrics (since + c.loop-step.step) (pushed c.args.steps.now c.args.at c.loop-step.step rs) (c.loop-step.invariant.metrics since rs k le) (omega (arith, c.loop-step-test.true)) in
-      subst (λ s. Holds c.add_compare_select.result.0 s (pushed c.args.steps.now c.args.at (c.loop-step.step + 1) rs)) on
-      (subst (λ m. Holds c.add_compare_select.result.0 (since + c.loop-step.step + 1) (pushed c.args.steps.now c.args.at m rs)) (sym (add-one c.loop-step.step))
-      (holds_next _ c.loop-step.metrics c.add_compare_select.result.0 (since + c.loop-step.step) (pushed c.args.steps.now c.args.at c.loop-step.step rs) (c.loop-step.invariant.metrics since rs k le) (c.add_compare_select.ensures.metrics low)));
+      subst (λ s. Holds c.next_step.result.0 s (pushed c.args.steps.now c.args.at (c.loop-step.step + 1) rs)) on
+      (subst (λ m. Holds c.next_step.result.0 (since + c.loop-step.step + 1) (pushed c.args.steps.now c.args.at m rs)) (sym (add-one c.loop-step.step))
+      (c.next_step.ensures.metrics (since + c.loop-step.step) (pushed c.args.steps.now c.args.at c.loop-step.step rs) (c.loop-step.invariant.metrics since rs k le) (omega (arith, c.loop-step-test.true))));
   tags = λ since rs k le.
-      let low : AreLow c.loop-step.metrics = are_low c.loop-step.metrics (since + c.loop-step.step) (pushed c.args.steps.now c.args.at c.loop-step.step rs) (c.loop-step.invariant.metrics since rs k le) (omega (arith, c.loop-step-test.true)) in
-      subst (λ m. AreTags c.marked-tags.result (c.loop-step.step + 1) (pushed c.args.steps.now c.args.at m rs)) (sym (add-one c.loop-step.step))
-      (tags_after _ c.loop-step.metrics c.loop-step.tags c.add_compare_select.result.1 c.marked-tags.result (since + c.loop-step.step) c.loop-step.step (pushed c.args.steps.now c.args.at c.loop-step.step rs) (c.loop-step.invariant.metrics since rs k le) (c.loop-step.invariant.tags since rs k le) (c.add_compare_select.ensures.tags low) c.marked-tags.ensures.second c.marked-tags.ensures.other);
+      subst (λ m. AreTags c.next_step.result.1 (c.loop-step.step + 1) (pushed c.args.steps.now c.args.at m rs)) (sym (add-one c.loop-step.step))
+      (c.next_step.ensures.tags (since + c.loop-step.step) (pushed c.args.steps.now c.args.at c.loop-step.step rs) (c.loop-step.invariant.metrics since rs k le) (omega (arith, c.loop-step-test.true)) (c.loop-step.invariant.tags since rs k le));
 }
 
 pub returns-clause-metrics : goal.returns-clause-metrics

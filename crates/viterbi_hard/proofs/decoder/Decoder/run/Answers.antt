@@ -12,8 +12,8 @@ loop-at-init c = record {
   feed = λ start bits before done r f. subst (λ m. FeedsTo start c.args.self.now bits before c.args.out.now c.args.decided m) (sym (add-zero done)) f;
 }
 
-pub whole_block-requires-clause-room : goal.whole_block-requires-clause-room
-whole_block-requires-clause-room c =
+pub feed_block-requires-clause-room : goal.feed_block-requires-clause-room
+feed_block-requires-clause-room c =
     let left = c.begins_block.ensures.left c.if-begins_block.true in
     omega (arith, left, c.loop-at.invariant.few, c.requires.room, c.loop-at.auto.out)
 
@@ -26,20 +26,19 @@ pub loop-at-preserved-then-begins_block : goal.loop-at-preserved-then-begins_blo
 loop-at-preserved-then-begins_block c =
     let left = c.begins_block.ensures.left c.if-begins_block.true in
     let young = c.begins_block.ensures.age c.if-begins_block.true in
-    let known = c.begins_block.ensures.known c.if-begins_block.true in
     record {
-      rate = c.whole_block.ensures.rate ∙ c.loop-at.invariant.rate;
+      rate = c.feed_block.ensures.rate ∙ c.loop-at.invariant.rate;
       few = omega (arith, c.loop-at.invariant.few);
       within = omega (arith, left);
       feed = λ start bits before done r f.
           let next : done + c.loop-at.at + 8 ≡ done + (c.loop-at.at + 8) = omega arith in
-          subst (λ m. FeedsTo start c.whole_block.new.self bits before c.whole_block.new.out (c.loop-at.end + 8) m) next
-          (feed-block start c.loop-at.self c.whole_block.new.self bits before c.loop-at.out c.whole_block.new.out c.loop-at.end (done + c.loop-at.at) c.loop-at.at c.args.steps.now
+          subst (λ m. FeedsTo start c.feed_block.new.self bits before c.feed_block.new.out (c.loop-at.end + 8) m) next
+          (feed-block start c.loop-at.self c.feed_block.new.self bits before c.loop-at.out c.feed_block.new.out c.loop-at.end (done + c.loop-at.at) c.loop-at.at c.args.steps.now
           (c.loop-at.invariant.feed start bits before done r f)
           (c.begins_block.ensures.steps c.if-begins_block.true)
-          (λ rs k. c.whole_block.ensures.keeps rs k young)
-          (λ rs k long j h. c.whole_block.ensures.decides rs k young known long j h)
-          c.whole_block.ensures.rest c.whole_block.ensures.rate c.whole_block.ensures.steps
+          (λ rs k. c.feed_block.ensures.keeps rs k young)
+          (λ rs k long j h. c.feed_block.ensures.decides rs k young long j h)
+          c.feed_block.ensures.rest c.feed_block.ensures.rate c.feed_block.ensures.steps
           (λ read n s g i h.
           (let place : n + (done + (c.loop-at.at + i)) ≡ n + (done + c.loop-at.at) + i = omega arith in
           r read n s g (c.loop-at.at + i) (omega (arith, left)) ∙ ap (received_at start.rate read) place)));

@@ -7,7 +7,7 @@ use Rattle.viterbi_hard.specs.Steps.{pushed}
 use Rattle.viterbi_hard.specs.Trellis.{IsDecided}
 use Rattle.viterbi_hard.proofs.ChosenLaws.{label_ahead, window-law}
 use Rattle.viterbi_hard.proofs.FeedLaws.{drop-pushed, length-pushed}
-use Rattle.viterbi_hard.proofs.decoder.Decoder.whole_block.Goals as goal
+use Rattle.viterbi_hard.proofs.decoder.Decoder.known_block.Goals as goal
 
 kept : (c : goal.After-oldest_bit) (rs : _) → Keeps c.args.self.now rs → c.args.self.now.age ≡ 0 → Keeps c.end_block.new.self (pushed c.args.steps.now c.args.at 8 rs)
 kept c rs k z =
