@@ -13,7 +13,7 @@ use Rattle.viterbi_hard.specs.declared.received.Decision.TheVariants.{Punctured}
 use Rattle.viterbi_hard.specs.declared.received.Received.{Received}
 use Rattle.viterbi_hard.specs.LeastPath.{decided_bit}
 use Rattle.viterbi_hard.specs.StandsFor.{FeedsTo, GoesOn, IsPlace, Keeps, Stands, StandsFor, steps_in}
-use Rattle.viterbi_hard.specs.Steps.{decision_of, nothing, pushed, received_at, received_from, received_steps, sends_x, sends_y, sent_before, used_at}
+use Rattle.viterbi_hard.specs.Steps.{decision_of, step_at, pushed, received_at, received_from, received_steps, sends_x, sends_y, sent_before, used_at}
 use Rattle.viterbi_hard.specs.Trellis.{IsDecided}
 use Rattle.viterbi_hard.proofs.DecidedLaws.{trellis-decides}
 use Rattle.viterbi_hard.proofs.StepLaws.{coded_len-suc, fits, length-received}
@@ -130,10 +130,10 @@ div-lt R56 i count h = omega arith
 div-lt R78 i count h = omega arith
 
 -- the steps of so many patterns behind the first ones
-pub expanded : (rate : Rate) (bits : List Bool) (steps : List Received) (p count : ℕ) → rate_bits rate * (p + count) ≤ length bits
-    → ((q j : ℕ) → q < count → j < rate_steps rate → get_or steps (rate_steps rate * q + j) nothing ≡ received_from rate (λ i. get_or bits i false) (rate_bits rate * p + rate_bits rate * q + sent_before rate j) j)
+pub expanded : (rate : Rate) (bits : List Bool) (steps : List ℕ) (p count : ℕ) → rate_bits rate * (p + count) ≤ length bits
+    → ((q j : ℕ) → q < count → j < rate_steps rate → step_at steps (rate_steps rate * q + j) ≡ received_from rate (λ i. get_or bits i false) (rate_bits rate * p + rate_bits rate * q + sent_before rate j) j)
     → (read : ℕ → Bool) (n : ℕ) → n % rate_steps rate ≡ 0 → GoesOn rate read n bits
-    → (i : ℕ) → i < rate_steps rate * count → get_or steps i nothing ≡ received_at rate read (n + (rate_steps rate * p + i))
+    → (i : ℕ) → i < rate_steps rate * count → step_at steps i ≡ received_at rate read (n + (rate_steps rate * p + i))
 expanded rate bits steps p count room f read n k g i h =
     let q : ℕ = i / rate_steps rate in
     let j : ℕ = i % rate_steps rate in
@@ -145,7 +145,7 @@ expanded rate bits steps p count room f read n k g i h =
     let on : rate_steps rate * (p + i / rate_steps rate) + i % rate_steps rate ≡ rate_steps rate * p + i = omega (arith, parts) in
     let upto : suc (i / rate_steps rate) ≤ count = omega arith in
     let fit = at-fits rate (rate_bits rate * p + rate_bits rate * (i / rate_steps rate)) (i % rate_steps rate) (rate_bits rate * p + rate_bits rate * (i / rate_steps rate) + sent_before rate (i % rate_steps rate)) refl low in
-    ap (λ m. get_or steps m nothing) (sym parts)
+    ap (λ m. step_at steps m) (sym parts)
     ∙ same-step rate bits (rate_bits rate * p + rate_bits rate * (i / rate_steps rate) + sent_before rate (i % rate_steps rate)) (rate_steps rate * (p + i / rate_steps rate)) (i % rate_steps rate) _ read n
     (f (i / rate_steps rate) (i % rate_steps rate) lt low)
     k (whole-times rate (p + i / rate_steps rate)) g low
@@ -224,16 +224,16 @@ module _ (d0 d d2 : Decoder) (bits before out : List Bool) (count done : ℕ) (r
 
 -- ---- a whole block more
 
-pub length-pushed : (steps : List Received) (at k : ℕ) (rs : List Received) → length (pushed steps at k rs) ≡ k + length rs
+pub length-pushed : (steps : List ℕ) (at k : ℕ) (rs : List Received) → length (pushed steps at k rs) ≡ k + length rs
 length-pushed steps at zero rs = sym (zero-add (length rs))
 length-pushed steps at (suc k) rs = omega (arith, length-pushed steps at k rs)
 
-pub drop-pushed : (steps : List Received) (at k : ℕ) (rs : List Received) → drop k (pushed steps at k rs) ≡ rs
+pub drop-pushed : (steps : List ℕ) (at k : ℕ) (rs : List Received) → drop k (pushed steps at k rs) ≡ rs
 drop-pushed steps at zero rs = refl
 drop-pushed steps at (suc k) rs = drop-pushed steps at k rs
 
 -- steps of the stream, behind those before
-received-pushed : (rate : Rate) (read : ℕ → Bool) (steps : List Received) (at m k : ℕ) → ((i : ℕ) → i < k → get_or steps (at + i) nothing ≡ received_at rate read (m + i)) → pushed steps at k (received_steps rate read m) ≡ received_steps rate read (m + k)
+received-pushed : (rate : Rate) (read : ℕ → Bool) (steps : List ℕ) (at m k : ℕ) → ((i : ℕ) → i < k → step_at steps (at + i) ≡ received_at rate read (m + i)) → pushed steps at k (received_steps rate read m) ≡ received_steps rate read (m + k)
 received-pushed rate read steps at m zero h = ap (received_steps rate read) (sym (add-zero m))
 received-pushed rate read steps at m (suc k) h =
     let next : m + suc k ≡ suc (m + k) = omega arith in
@@ -241,14 +241,14 @@ received-pushed rate read steps at m (suc k) h =
     ∙ ap (λ l. received_at rate read (m + k) ∷ l) (received-pushed rate read steps at m k (λ i l. h i (omega arith)))
     ∙ ap (received_steps rate read) (sym next)
 
-module _ (d0 d d2 : Decoder) (bits before out out2 : List Bool) (count done at : ℕ) (steps : List Received)
+module _ (d0 d d2 : Decoder) (bits before out out2 : List Bool) (count done at : ℕ) (steps : List ℕ)
     (f : FeedsTo d0 d bits before out count done)
     (many : 127 ≤ d.steps)
     (keeps : (rs : List Received) → Keeps d rs → Keeps d2 (pushed steps at 8 rs))
     (decides : (rs : List Received) → Keeps d rs → 127 ≤ length rs → (j : ℕ) → j < 8 → IsDecided (pushed steps at (j + 1) rs) (get_or out2 (count + j) false))
     (others : (i : ℕ) → ((i < count) ⊎ (count + 8 ≤ i)) → get_or out2 i false ≡ get_or out i false)
     (same : d2.rate ≡ d.rate) (stays : d2.steps ≡ d.steps)
-    (here : (read : ℕ → Bool) (n : ℕ) → StandsFor d0 read n → GoesOn d0.rate read n bits → (i : ℕ) → i < 8 → get_or steps (at + i) nothing ≡ received_at d0.rate read (n + done + i)) where
+    (here : (read : ℕ → Bool) (n : ℕ) → StandsFor d0 read n → GoesOn d0.rate read n bits → (i : ℕ) → i < 8 → step_at steps (at + i) ≡ received_at d0.rate read (n + done + i)) where
   block-bit : (read : ℕ → Bool) (n : ℕ) → StandsFor d0 read n → GoesOn d0.rate read n bits → 127 ≤ n + done → (j : ℕ) → j < 8 → get_or out2 (count + j) false ≡ decided_bit d0.rate read (n + done + j - 127)
   block-bit read n s g long j h =
       let is = received-pushed d0.rate read steps at (n + done) (j + 1) (λ i l. here read n s g i (omega arith)) in

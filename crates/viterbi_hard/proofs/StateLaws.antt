@@ -6,8 +6,9 @@ use Rattle.viterbi_hard.specs.declared.lanes.TheConstants.{EVEN_COSTS, ODD_COSTS
 use Rattle.viterbi_hard.specs.declared.received.Decision.TheVariants.{Punctured, Zero, One}
 use Rattle.viterbi_hard.specs.declared.received.Decision.{Decision}
 use Rattle.viterbi_hard.specs.declared.received.Received.{Received}
+use Rattle.viterbi_hard.specs.Steps.{decision_at, read_of}
 use Rattle.viterbi_hard.specs.Trellis.{branch_metric, previous}
-use Rattle.viterbi_hard.specs.States.{even_metric, odd_metric, next_metric, next_tag, odd, state_of, branch_metric_at, row_of}
+use Rattle.viterbi_hard.specs.States.{place_of, even_metric, odd_metric, next_metric, next_tag, odd, state_of, branch_metric_at}
 use Rattle.viterbi_hard.proofs.TrellisLaws.{branch_metric_le}
 
 pub odd_same : (a b : ℕ) → a % 2 ≡ b % 2 → odd a ≡ odd b
@@ -64,42 +65,12 @@ branch_metric_at_le r n g = branch_metric_le r _ _ _ _ _ _ g
 abbrev read : Decision → Decision → Received
 read m k = record { x = m; y = k }
 
-abbrev even_test : Decision → Decision → ℕ → Bool
-even_test m k i = eqb (get_or (get_or EVEN_COSTS (row_of (read m k)) []) i 0) (branch_metric_at (read m k) (2 * i) false)
-
-abbrev odd_test : Decision → Decision → ℕ → Bool
-odd_test m k i = eqb (get_or (get_or ODD_COSTS (row_of (read m k)) []) i 0) (branch_metric_at (read m k) (2 * i) true)
-
 -- to turn both a step's own bit and the one six steps before turns neither output
 abbrev turned_even : Decision → Decision → ℕ → Bool
 turned_even m k i = eqb (branch_metric_at (read m k) (2 * i) true) (branch_metric_at (read m k) (2 * i + 1) false)
 
 abbrev turned_odd : Decision → Decision → ℕ → Bool
 turned_odd m k i = eqb (branch_metric_at (read m k) (2 * i) false) (branch_metric_at (read m k) (2 * i + 1) true)
-
-even_rows : (m k : Decision) (i : ℕ) → i < 32 → even_test m k i ≡ true
-unfolding branch_metric
-even_rows Punctured Punctured i h = agree_below_at (even_test Punctured Punctured) (λ _. true) 32 i refl h
-even_rows Punctured Zero i h = agree_below_at (even_test Punctured Zero) (λ _. true) 32 i refl h
-even_rows Punctured One i h = agree_below_at (even_test Punctured One) (λ _. true) 32 i refl h
-even_rows Zero Punctured i h = agree_below_at (even_test Zero Punctured) (λ _. true) 32 i refl h
-even_rows Zero Zero i h = agree_below_at (even_test Zero Zero) (λ _. true) 32 i refl h
-even_rows Zero One i h = agree_below_at (even_test Zero One) (λ _. true) 32 i refl h
-even_rows One Punctured i h = agree_below_at (even_test One Punctured) (λ _. true) 32 i refl h
-even_rows One Zero i h = agree_below_at (even_test One Zero) (λ _. true) 32 i refl h
-even_rows One One i h = agree_below_at (even_test One One) (λ _. true) 32 i refl h
-
-odd_rows : (m k : Decision) (i : ℕ) → i < 32 → odd_test m k i ≡ true
-unfolding branch_metric
-odd_rows Punctured Punctured i h = agree_below_at (odd_test Punctured Punctured) (λ _. true) 32 i refl h
-odd_rows Punctured Zero i h = agree_below_at (odd_test Punctured Zero) (λ _. true) 32 i refl h
-odd_rows Punctured One i h = agree_below_at (odd_test Punctured One) (λ _. true) 32 i refl h
-odd_rows Zero Punctured i h = agree_below_at (odd_test Zero Punctured) (λ _. true) 32 i refl h
-odd_rows Zero Zero i h = agree_below_at (odd_test Zero Zero) (λ _. true) 32 i refl h
-odd_rows Zero One i h = agree_below_at (odd_test Zero One) (λ _. true) 32 i refl h
-odd_rows One Punctured i h = agree_below_at (odd_test One Punctured) (λ _. true) 32 i refl h
-odd_rows One Zero i h = agree_below_at (odd_test One Zero) (λ _. true) 32 i refl h
-odd_rows One One i h = agree_below_at (odd_test One One) (λ _. true) 32 i refl h
 
 even_turns : (m k : Decision) (i : ℕ) → i < 32 → turned_even m k i ≡ true
 unfolding branch_metric
@@ -125,11 +96,62 @@ odd_turns One Punctured i h = agree_below_at (turned_odd One Punctured) (λ _. t
 odd_turns One Zero i h = agree_below_at (turned_odd One Zero) (λ _. true) 32 i refl h
 odd_turns One One i h = agree_below_at (turned_odd One One) (λ _. true) 32 i refl h
 
-pub even_cost : (r : Received) (k i : ℕ) → k ≡ row_of r → i < 32 → get_or (get_or EVEN_COSTS k []) i 0 ≡ branch_metric_at r (2 * i) false
-even_cost r k i e h = ap (λ j. get_or (get_or EVEN_COSTS j []) i 0) e ∙ eqb-true _ _ (even_rows r.x r.y i h)
+-- row k for the number k
+even_rows : (m : ℕ) → m < 512 → eqb (get_or (get_or EVEN_COSTS (m / 32) []) (m % 32) 0) (branch_metric_at (read_of (m / 32)) (2 * (m % 32)) false) ≡ true
+unfolding branch_metric
+even_rows m h = agree_below_at (λ m. eqb (get_or (get_or EVEN_COSTS (m / 32) []) (m % 32) 0) (branch_metric_at (read_of (m / 32)) (2 * (m % 32)) false)) (λ _. true) 512 m refl h
 
-pub odd_cost : (r : Received) (k i : ℕ) → k ≡ row_of r → i < 32 → get_or (get_or ODD_COSTS k []) i 0 ≡ branch_metric_at r (2 * i) true
-odd_cost r k i e h = ap (λ j. get_or (get_or ODD_COSTS j []) i 0) e ∙ eqb-true _ _ (odd_rows r.x r.y i h)
+odd_rows : (m : ℕ) → m < 512 → eqb (get_or (get_or ODD_COSTS (m / 32) []) (m % 32) 0) (branch_metric_at (read_of (m / 32)) (2 * (m % 32)) true) ≡ true
+unfolding branch_metric
+odd_rows m h = agree_below_at (λ m. eqb (get_or (get_or ODD_COSTS (m / 32) []) (m % 32) 0) (branch_metric_at (read_of (m / 32)) (2 * (m % 32)) true)) (λ _. true) 512 m refl h
+
+read_mod : (k : ℕ) → read_of (k % 16) ≡ read_of k
+read_mod k =
+    let x : k % 16 / 4 % 4 ≡ k / 4 % 4 = omega arith in
+    let y : k % 16 % 4 ≡ k % 4 = omega arith in
+    rw (x, y)
+
+pub even_cost : (k i : ℕ) → i < 32 → get_or (get_or EVEN_COSTS (k % 16) []) i 0 ≡ branch_metric_at (read_of k) (2 * i) false
+even_cost k i h =
+    let row : (32 * (k % 16) + i) / 32 ≡ k % 16 = omega arith in
+    let place : (32 * (k % 16) + i) % 32 ≡ i = omega arith in
+    let test : ℕ → ℕ → Bool = λ r j. eqb (get_or (get_or EVEN_COSTS r []) j 0) (branch_metric_at (read_of r) (2 * j) false) in
+    eqb-true _ _ (ap (λ r. test r i) (sym row) ∙ ap (λ j. test ((32 * (k % 16) + i) / 32) j) (sym place) ∙ even_rows (32 * (k % 16) + i) (omega arith))
+    ∙ ap (λ r. branch_metric_at r (2 * i) false) (read_mod k)
+
+pub odd_cost : (k i : ℕ) → i < 32 → get_or (get_or ODD_COSTS (k % 16) []) i 0 ≡ branch_metric_at (read_of k) (2 * i) true
+odd_cost k i h =
+    let row : (32 * (k % 16) + i) / 32 ≡ k % 16 = omega arith in
+    let place : (32 * (k % 16) + i) % 32 ≡ i = omega arith in
+    let test : ℕ → ℕ → Bool = λ r j. eqb (get_or (get_or ODD_COSTS r []) j 0) (branch_metric_at (read_of r) (2 * j) true) in
+    eqb-true _ _ (ap (λ r. test r i) (sym row) ∙ ap (λ j. test ((32 * (k % 16) + i) / 32) j) (sym place) ∙ odd_rows (32 * (k % 16) + i) (omega arith))
+    ∙ ap (λ r. branch_metric_at r (2 * i) true) (read_mod k)
+
+-- the number of what was read
+pub read_number : (r : Received) → read_of (4 * place_of r.x + place_of r.y) ≡ r
+read_number r = rw (x_is r.x r.y, y_is r.x r.y)
+  where
+    x_is : (m k : Decision) → decision_at ((4 * place_of m + place_of k) / 4 % 4) ≡ m
+    x_is Punctured Punctured = refl
+    x_is Punctured Zero = refl
+    x_is Punctured One = refl
+    x_is Zero Punctured = refl
+    x_is Zero Zero = refl
+    x_is Zero One = refl
+    x_is One Punctured = refl
+    x_is One Zero = refl
+    x_is One One = refl
+
+    y_is : (m k : Decision) → decision_at ((4 * place_of m + place_of k) % 4) ≡ k
+    y_is Punctured Punctured = refl
+    y_is Punctured Zero = refl
+    y_is Punctured One = refl
+    y_is Zero Punctured = refl
+    y_is Zero Zero = refl
+    y_is Zero One = refl
+    y_is One Punctured = refl
+    y_is One Zero = refl
+    y_is One One = refl
 
 -- ---- the metrics of lanes 2 * i and 2 * i + 1 through their even and their odd states before
 

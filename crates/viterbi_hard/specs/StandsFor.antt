@@ -6,7 +6,7 @@ use Rattle.conv_punct.specs.CodedBits.{coded_len}
 use Rattle.viterbi_hard.specs.declared.received.Received.{Received}
 use Rattle.viterbi_hard.specs.declared.decoder.Decoder.{Decoder}
 use Rattle.viterbi_hard.specs.LeastPath.{decided_bit}
-use Rattle.viterbi_hard.specs.Steps.{nothing, received_at, received_steps}
+use Rattle.viterbi_hard.specs.Steps.{received_at, received_steps, step_at}
 use Rattle.viterbi_hard.specs.Trellis.{IsChosen}
 use Rattle.viterbi_hard.specs.States.{AreTags, Holds, IsLabel, path_at, state_of}
 use Rattle.viterbi_hard.specs.Blocks.{Traced}
@@ -59,8 +59,8 @@ abbrev pub IsPlace : Rate → ℕ → ℕ → Type 0
 IsPlace rate at done = (n : ℕ) → n % rate_steps rate ≡ 0 → coded_len rate n + at ≡ coded_len rate (n + done)
 
 -- the steps of a list are those of the stream, from so many steps behind the start on
-abbrev pub AreSteps : Decoder → List Bool → List Received → ℕ → Type 0
-AreSteps start bits steps done = (read : ℕ → Bool) (n : ℕ) → StandsFor start read n → GoesOn start.rate read n bits → (i : ℕ) → i < length steps → slice_index_or steps i nothing ≡ received_at start.rate read (n + (done + i))
+abbrev pub AreSteps : Decoder → List Bool → List ℕ → ℕ → Type 0
+AreSteps start bits steps done = (read : ℕ → Bool) (n : ℕ) → StandsFor start read n → GoesOn start.rate read n bits → (i : ℕ) → i < length steps → step_at steps i ≡ received_at start.rate read (n + (done + i))
 
 -- from one state of a decoder to another, over the first `done` steps of the fed bits: `count` bits were decided and put to
 -- the front of the output

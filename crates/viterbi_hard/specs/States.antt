@@ -21,14 +21,11 @@ natural_of n = 32 * (n % 2) + 16 * (n / 2 % 2) + 8 * (n / 4 % 2) + 4 * (n / 8 % 
 abbrev pub path_at : List Received → ℕ → List Bool
 path_at rs n = path_of (state_of n) (survivor rs (state_of n))
 
--- the row of a decision in a table, and of what was read of a step
+-- what was read in a place as a number
 abbrev pub place_of : Decision → ℕ
 place_of Punctured = 0
 place_of Zero = 1
 place_of One = 2
-
-abbrev pub row_of : Received → ℕ
-row_of r = 3 * place_of r.x + place_of r.y
 
 -- the branch metric into lane n, where g was the oldest bit of the state before
 abbrev pub branch_metric_at : Received → ℕ → Bool → ℕ

@@ -1,5 +1,5 @@
 -- What was read of each step of the mother code: the steps' places among the read bits.
-use Rattle.std.specs.Prelude.{ℕ, zero, suc, ◌+◌, ◌%◌, ◌==◌, Bool, true, false, cond, List, [], ◌∷◌, slice_index_or}
+use Rattle.std.specs.Prelude.{ℕ, zero, suc, ◌+◌, ◌/◌, ◌%◌, ◌==◌, Bool, true, false, cond, List, [], ◌∷◌, slice_index}
 use Rattle.std.specs.List.{list_any}
 use Rattle.isdbt_base.specs.declared.kinds.Rate.{Rate}
 use Rattle.isdbt_base.specs.Numbers.{rate_steps}
@@ -53,11 +53,19 @@ abbrev pub received_steps : Rate → (ℕ → Bool) → ℕ → List Received
 received_steps rate read zero = []
 received_steps rate read (suc n) = received_at rate read n ∷ received_steps rate read n
 
--- a step of which nothing was sent
-abbrev pub nothing : Received
-nothing = record { x = Punctured; y = Punctured }
+-- what was read of a step by its number: four times what was read in the place of X, and what was in that of Y, each 1 for
+-- a 0 and 2 for a 1
+abbrev pub decision_at : ℕ → Decision
+decision_at n = cond (n == 1) Zero (cond (n == 2) One Punctured)
+
+abbrev pub read_of : ℕ → Received
+read_of n = record { x = decision_at (n / 4 % 4); y = decision_at (n % 4) }
+
+-- step i of a list of such numbers
+abbrev pub step_at : List ℕ → ℕ → Received
+step_at steps i = read_of (slice_index steps i)
 
 -- so many steps of a list from a place on, the newest first, behind those before
-abbrev pub pushed : List Received → ℕ → ℕ → List Received → List Received
+abbrev pub pushed : List ℕ → ℕ → ℕ → List Received → List Received
 pushed steps at zero rs = rs
-pushed steps at (suc k) rs = slice_index_or steps (at + k) nothing ∷ pushed steps at k rs
+pushed steps at (suc k) rs = step_at steps (at + k) ∷ pushed steps at k rs

@@ -5,14 +5,15 @@ ghost use Rattle.isdbt_base.specs.Numbers.{rate_steps, rate_bits};
 ghost use Rattle.viterbi_hard.specs.LeastPath.{decided_bit};
 ghost use Rattle.viterbi_hard.specs.Blocks.{Traced};
 ghost use Rattle.viterbi_hard.specs.States.{AreTags, Holds, odd};
-ghost use Rattle.viterbi_hard.specs.Steps.{pushed};
+ghost use Rattle.viterbi_hard.specs.declared.received.Received.{Received};
+ghost use Rattle.viterbi_hard.specs.Steps.{pushed, read_of};
 ghost use Rattle.viterbi_hard.specs.Trellis.{IsDecided};
 
 use crate::blocks::Blocks;
 use crate::lanes::{eight_steps, lowered, next_step};
 use crate::least::{first_least, least_of_all};
 use crate::maps::OWN_LANES;
-use crate::received::{NOTHING, Received, expand};
+use crate::received::expand;
 use isdbt_base::{Rate, rate_pair};
 use std::simd::prelude::*;
 
@@ -99,12 +100,12 @@ impl Decoder {
 
     /// Goes one step on.
     #[inline(always)]
-    fn advance(&mut self, received: Received)
-        ensures keeps { (rs : List Received) → Keeps self.old rs → Keeps self.new (received ∷ rs) }
+    fn advance(&mut self, read: u8)
+        ensures keeps { (rs : List Received) → Keeps self.old rs → Keeps self.new (read_of read ∷ rs) }
         ensures rate { self.new.rate ≡ self.old.rate }
         ensures steps { self.new.steps ≡ self.old.steps }
     {
-        let (metrics, tags) = next_step(self.metrics, self.tags, self.age, received);
+        let (metrics, tags) = next_step(self.metrics, self.tags, self.age, read);
         self.metrics = metrics;
         self.tags = tags;
         if self.age < 7 {
@@ -145,19 +146,19 @@ impl Decoder {
 
     /// One step; the bit is the decided one where 127 steps came before.
     #[inline(always)]
-    fn step(&mut self, received: Received) -> bool
-        ensures keeps { (rs : List Received) → Keeps self.old rs → Keeps self.new (received ∷ rs) }
-        ensures decides { (rs : List Received) → Keeps self.old rs → 127 ≤ length rs → IsDecided (received ∷ rs) result }
+    fn step(&mut self, read: u8) -> bool
+        ensures keeps { (rs : List Received) → Keeps self.old rs → Keeps self.new (read_of read ∷ rs) }
+        ensures decides { (rs : List Received) → Keeps self.old rs → 127 ≤ length rs → IsDecided (read_of read ∷ rs) result }
         ensures rate { self.new.rate ≡ self.old.rate }
         ensures steps { self.new.steps ≡ self.old.steps }
     {
-        self.advance(received);
+        self.advance(read);
         self.oldest_bit()
     }
 
     /// Eight steps from a boundary on, where the oldest block is known: its bits are decided, and the first of the next.
     #[inline(always)]
-    fn known_block(&mut self, steps: &[Received], at: usize, out: &mut [bool], end: usize)
+    fn known_block(&mut self, steps: &[u8], at: usize, out: &mut [bool], end: usize)
         requires steps { at + 8 ≤ length steps.now }
         requires room { end + 8 ≤ length out.old }
         ensures keeps { (rs : List Received) → Keeps self.old rs → self.old.age ≡ 0 → Keeps self.new (pushed steps.now at 8 rs) }
@@ -177,7 +178,7 @@ impl Decoder {
 
     /// The same where the oldest block is not known: each of its bits is searched for.
     #[inline(always)]
-    fn searched_block(&mut self, steps: &[Received], at: usize, out: &mut [bool], end: usize)
+    fn searched_block(&mut self, steps: &[u8], at: usize, out: &mut [bool], end: usize)
         requires steps { at + 8 ≤ length steps.now }
         requires room { end + 8 ≤ length out.old }
         ensures keeps { (rs : List Received) → Keeps self.old rs → self.old.age ≡ 0 → Keeps self.new (pushed steps.now at 8 rs) }
@@ -219,7 +220,7 @@ impl Decoder {
 
     /// A whole block.
     #[inline(always)]
-    fn feed_block(&mut self, steps: &[Received], at: usize, out: &mut [bool], end: usize)
+    fn feed_block(&mut self, steps: &[u8], at: usize, out: &mut [bool], end: usize)
         requires steps { at + 8 ≤ length steps.now }
         requires room { end + 8 ≤ length out.old }
         ensures keeps { (rs : List Received) → Keeps self.old rs → self.old.age ≡ 0 → Keeps self.new (pushed steps.now at 8 rs) }
@@ -236,7 +237,7 @@ impl Decoder {
     }
 
     /// Feeds steps, and puts what is decided behind the first `decided` bits of `out`. Answers where it ends.
-    fn run(&mut self, steps: &[Received], out: &mut [bool], decided: usize) -> usize
+    fn run(&mut self, steps: &[u8], out: &mut [bool], decided: usize) -> usize
         requires room { decided + length steps.now ≤ length out.old }
         ensures fed { (start : Decoder) (bits before : List Bool) (done : ℕ) → AreSteps start bits steps.now done → FeedsTo start self.old bits before out.old decided done → FeedsTo start self.new bits before out.new result (done + length steps.now) }
         ensures count { result ≤ decided + length steps.now }
@@ -280,7 +281,7 @@ impl Decoder {
         let (pattern_steps, pattern_bits) = rate_pair(self.rate);
         let patterns = bits.len() / pattern_bits as usize;
         let most = MOST_STEPS / pattern_steps as usize;
-        let mut steps = [NOTHING; MOST_STEPS];
+        let mut steps = [0u8; MOST_STEPS];
         let mut decided = 0usize;
         let mut done = 0usize;
         while done < patterns {

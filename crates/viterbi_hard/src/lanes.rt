@@ -9,16 +9,15 @@
 //! other way round. Two vectors of 32 branch metrics serve all.
 
 ghost use Rattle.std.specs.Prelude.{◌≡◌, ℕ, ◌+◌, ◌-◌, ◌*◌, ◌%◌, ◌<◌, ◌≤◌, true, false, cond, nat_lt, ◌∷◌, slice_index, All, length, List};
-ghost use Rattle.viterbi_hard.specs.Steps.{pushed};
-ghost use Rattle.viterbi_hard.specs.States.{AreLow, AreTags, Holds, branch_metric_at, next_metric, next_tag, place_of, row_of};
+ghost use Rattle.viterbi_hard.specs.declared.received.Received.{Received};
+ghost use Rattle.viterbi_hard.specs.Steps.{pushed, read_of};
+ghost use Rattle.viterbi_hard.specs.States.{AreLow, AreTags, Holds, branch_metric_at, next_metric, next_tag};
 
 use crate::maps::OWN_LANES;
-use crate::received::{Decision, Received};
 use std::simd::prelude::*;
 
-/// What the step into lane 2 * i costs from its even state, in a row for what was read: in the place of X nothing, 0 or 1,
-/// times three, and in that of Y.
-static EVEN_COSTS: [[u8; 32]; 9] = [
+/// What the step into lane 2 * i costs from its even state, in a row for each number of what was read.
+static EVEN_COSTS: [[u8; 32]; 16] = [
     [
         0, 0, 0, 0, 0, 0, 0, 0, 0, 0, 0, 0, 0, 0, 0, 0, 0, 0, 0, 0, 0, 0, 0, 0, 0, 0, 0, 0, 0, 0,
         0, 0,
@@ -29,6 +28,10 @@ static EVEN_COSTS: [[u8; 32]; 9] = [
     ],
     [
         1, 1, 0, 0, 0, 0, 1, 1, 1, 1, 0, 0, 0, 0, 1, 1, 0, 0, 1, 1, 1, 1, 0, 0, 0, 0, 1, 1, 1, 1,
+        0, 0,
+    ],
+    [
+        0, 0, 0, 0, 0, 0, 0, 0, 0, 0, 0, 0, 0, 0, 0, 0, 0, 0, 0, 0, 0, 0, 0, 0, 0, 0, 0, 0, 0, 0,
         0, 0,
     ],
     [
@@ -44,6 +47,10 @@ static EVEN_COSTS: [[u8; 32]; 9] = [
         0, 1,
     ],
     [
+        0, 1, 1, 0, 1, 0, 0, 1, 0, 1, 1, 0, 1, 0, 0, 1, 0, 1, 1, 0, 1, 0, 0, 1, 0, 1, 1, 0, 1, 0,
+        0, 1,
+    ],
+    [
         1, 0, 0, 1, 0, 1, 1, 0, 1, 0, 0, 1, 0, 1, 1, 0, 1, 0, 0, 1, 0, 1, 1, 0, 1, 0, 0, 1, 0, 1,
         1, 0,
     ],
@@ -54,11 +61,31 @@ static EVEN_COSTS: [[u8; 32]; 9] = [
     [
         2, 1, 0, 1, 0, 1, 2, 1, 2, 1, 0, 1, 0, 1, 2, 1, 1, 0, 1, 2, 1, 2, 1, 0, 1, 0, 1, 2, 1, 2,
         1, 0,
+    ],
+    [
+        1, 0, 0, 1, 0, 1, 1, 0, 1, 0, 0, 1, 0, 1, 1, 0, 1, 0, 0, 1, 0, 1, 1, 0, 1, 0, 0, 1, 0, 1,
+        1, 0,
+    ],
+    [
+        0, 0, 0, 0, 0, 0, 0, 0, 0, 0, 0, 0, 0, 0, 0, 0, 0, 0, 0, 0, 0, 0, 0, 0, 0, 0, 0, 0, 0, 0,
+        0, 0,
+    ],
+    [
+        0, 0, 1, 1, 1, 1, 0, 0, 0, 0, 1, 1, 1, 1, 0, 0, 1, 1, 0, 0, 0, 0, 1, 1, 1, 1, 0, 0, 0, 0,
+        1, 1,
+    ],
+    [
+        1, 1, 0, 0, 0, 0, 1, 1, 1, 1, 0, 0, 0, 0, 1, 1, 0, 0, 1, 1, 1, 1, 0, 0, 0, 0, 1, 1, 1, 1,
+        0, 0,
+    ],
+    [
+        0, 0, 0, 0, 0, 0, 0, 0, 0, 0, 0, 0, 0, 0, 0, 0, 0, 0, 0, 0, 0, 0, 0, 0, 0, 0, 0, 0, 0, 0,
+        0, 0,
     ],
 ];
 
 /// The same from its odd state.
-static ODD_COSTS: [[u8; 32]; 9] = [
+static ODD_COSTS: [[u8; 32]; 16] = [
     [
         0, 0, 0, 0, 0, 0, 0, 0, 0, 0, 0, 0, 0, 0, 0, 0, 0, 0, 0, 0, 0, 0, 0, 0, 0, 0, 0, 0, 0, 0,
         0, 0,
@@ -70,6 +97,10 @@ static ODD_COSTS: [[u8; 32]; 9] = [
     [
         0, 0, 1, 1, 1, 1, 0, 0, 0, 0, 1, 1, 1, 1, 0, 0, 1, 1, 0, 0, 0, 0, 1, 1, 1, 1, 0, 0, 0, 0,
         1, 1,
+    ],
+    [
+        0, 0, 0, 0, 0, 0, 0, 0, 0, 0, 0, 0, 0, 0, 0, 0, 0, 0, 0, 0, 0, 0, 0, 0, 0, 0, 0, 0, 0, 0,
+        0, 0,
     ],
     [
         1, 0, 0, 1, 0, 1, 1, 0, 1, 0, 0, 1, 0, 1, 1, 0, 1, 0, 0, 1, 0, 1, 1, 0, 1, 0, 0, 1, 0, 1,
@@ -84,6 +115,10 @@ static ODD_COSTS: [[u8; 32]; 9] = [
         2, 1,
     ],
     [
+        1, 0, 0, 1, 0, 1, 1, 0, 1, 0, 0, 1, 0, 1, 1, 0, 1, 0, 0, 1, 0, 1, 1, 0, 1, 0, 0, 1, 0, 1,
+        1, 0,
+    ],
+    [
         0, 1, 1, 0, 1, 0, 0, 1, 0, 1, 1, 0, 1, 0, 0, 1, 0, 1, 1, 0, 1, 0, 0, 1, 0, 1, 1, 0, 1, 0,
         0, 1,
     ],
@@ -95,44 +130,42 @@ static ODD_COSTS: [[u8; 32]; 9] = [
         0, 1, 2, 1, 2, 1, 0, 1, 0, 1, 2, 1, 2, 1, 0, 1, 1, 2, 1, 0, 1, 0, 1, 2, 1, 2, 1, 0, 1, 0,
         1, 2,
     ],
+    [
+        0, 1, 1, 0, 1, 0, 0, 1, 0, 1, 1, 0, 1, 0, 0, 1, 0, 1, 1, 0, 1, 0, 0, 1, 0, 1, 1, 0, 1, 0,
+        0, 1,
+    ],
+    [
+        0, 0, 0, 0, 0, 0, 0, 0, 0, 0, 0, 0, 0, 0, 0, 0, 0, 0, 0, 0, 0, 0, 0, 0, 0, 0, 0, 0, 0, 0,
+        0, 0,
+    ],
+    [
+        1, 1, 0, 0, 0, 0, 1, 1, 1, 1, 0, 0, 0, 0, 1, 1, 0, 0, 1, 1, 1, 1, 0, 0, 0, 0, 1, 1, 1, 1,
+        0, 0,
+    ],
+    [
+        0, 0, 1, 1, 1, 1, 0, 0, 0, 0, 1, 1, 1, 1, 0, 0, 1, 1, 0, 0, 0, 0, 1, 1, 1, 1, 0, 0, 0, 0,
+        1, 1,
+    ],
+    [
+        0, 0, 0, 0, 0, 0, 0, 0, 0, 0, 0, 0, 0, 0, 0, 0, 0, 0, 0, 0, 0, 0, 0, 0, 0, 0, 0, 0, 0, 0,
+        0, 0,
+    ],
 ];
-
-/// The row of a decision in the tables.
-#[inline(always)]
-fn place(decision: Decision) -> usize
-    ensures row { result ≡ place_of decision }
-    ensures within { result < 3 }
-{
-    match decision {
-        Decision::Punctured => 0,
-        Decision::Zero => 1,
-        Decision::One => 2,
-    }
-}
-
-/// The row of what was read of a step.
-#[inline(always)]
-fn row(received: Received) -> usize
-    ensures row { result ≡ row_of received }
-    ensures within { result < 9 }
-{
-    3 * place(received.x) + place(received.y)
-}
 
 /// The branch metrics into the lanes 2 * i from their even states, and into the lanes 2 * i + 1 from their odd states.
 #[inline(always)]
-fn even_costs(received: Received) -> u8x32
-    ensures { (i : ℕ) → i < 32 → slice_index result i ≡ branch_metric_at received (2 * i) false }
+fn even_costs(read: u8) -> u8x32
+    ensures { (i : ℕ) → i < 32 → slice_index result i ≡ branch_metric_at (read_of read) (2 * i) false }
 {
-    u8x32::from_array(EVEN_COSTS[row(received)])
+    u8x32::from_array(EVEN_COSTS[(read % 16) as usize])
 }
 
 /// The branch metrics into the lanes 2 * i from their odd states, and into the lanes 2 * i + 1 from their even states.
 #[inline(always)]
-fn odd_costs(received: Received) -> u8x32
-    ensures { (i : ℕ) → i < 32 → slice_index result i ≡ branch_metric_at received (2 * i) true }
+fn odd_costs(read: u8) -> u8x32
+    ensures { (i : ℕ) → i < 32 → slice_index result i ≡ branch_metric_at (read_of read) (2 * i) true }
 {
-    u8x32::from_array(ODD_COSTS[row(received)])
+    u8x32::from_array(ODD_COSTS[(read % 16) as usize])
 }
 
 /// Two vectors lane by lane, each lane that does not overflow.
@@ -195,12 +228,12 @@ fn woven(zeros: u8x32, ones: u8x32) -> u8x64
 /// The metrics and the tags one step on: to the metrics of the even and of the odd states before the branch metrics are
 /// added, the two are compared, and the survivor's metric and tag are selected.
 #[inline(always)]
-fn add_compare_select(metrics: u8x64, tags: u8x64, received: Received) -> (u8x64, u8x64)
-    ensures metrics { AreLow metrics → (n : ℕ) → n < 64 → slice_index result.0 n ≡ next_metric received metrics n }
-    ensures tags { AreLow metrics → (n : ℕ) → n < 64 → slice_index result.1 n ≡ next_tag received metrics tags n }
+fn add_compare_select(metrics: u8x64, tags: u8x64, read: u8) -> (u8x64, u8x64)
+    ensures metrics { AreLow metrics → (n : ℕ) → n < 64 → slice_index result.0 n ≡ next_metric (read_of read) metrics n }
+    ensures tags { AreLow metrics → (n : ℕ) → n < 64 → slice_index result.1 n ≡ next_tag (read_of read) metrics tags n }
 {
-    let same = even_costs(received);
-    let other = odd_costs(received);
+    let same = even_costs(read);
+    let other = odd_costs(read);
     let even = low_half(metrics);
     let odd = high_half(metrics);
     let even_tags = low_half(tags);
@@ -249,18 +282,18 @@ pub fn lowered(v: u8x64, least: u8) -> u8x64
 
 /// The metrics and the tags one step on, where `age` steps came before behind the boundary.
 #[inline(always)]
-pub fn next_step(metrics: u8x64, tags: u8x64, age: u8, received: Received) -> (u8x64, u8x64)
-    ensures metrics { (since : ℕ) (rs : List Received) → Holds metrics since rs → since < 64 → Holds result.0 (since + 1) (received ∷ rs) }
-    ensures tags { (since : ℕ) (rs : List Received) → Holds metrics since rs → since < 64 → AreTags tags age rs → AreTags result.1 (age + 1) (received ∷ rs) }
+pub fn next_step(metrics: u8x64, tags: u8x64, age: u8, read: u8) -> (u8x64, u8x64)
+    ensures metrics { (since : ℕ) (rs : List Received) → Holds metrics since rs → since < 64 → Holds result.0 (since + 1) (read_of read ∷ rs) }
+    ensures tags { (since : ℕ) (rs : List Received) → Holds metrics since rs → since < 64 → AreTags tags age rs → AreTags result.1 (age + 1) (read_of read ∷ rs) }
 {
-    let (next_metrics, next_tags) = add_compare_select(metrics, tags, received);
+    let (next_metrics, next_tags) = add_compare_select(metrics, tags, read);
     let new_tags = marked(next_tags, age);
     (next_metrics, new_tags)
 }
 
 /// The metrics and the tags eight steps behind a boundary, from the metrics there and the steps from a place on.
 #[inline(always)]
-pub fn eight_steps(start: u8x64, steps: &[Received], at: usize) -> (u8x64, u8x64)
+pub fn eight_steps(start: u8x64, steps: &[u8], at: usize) -> (u8x64, u8x64)
     requires { at + 8 ≤ length steps.now }
     ensures metrics { (since : ℕ) (rs : List Received) → Holds start since rs → since ≤ 56 → Holds result.0 (since + 8) (pushed steps.now at 8 rs) }
     ensures tags { (since : ℕ) (rs : List Received) → Holds start since rs → since ≤ 56 → AreTags result.1 8 (pushed steps.now at 8 rs) }

@@ -1,8 +1,9 @@
 //! What was read of a step: hard decisions in the places of its outputs.
 
-ghost use Rattle.std.specs.Prelude.{◌≡◌, ℕ, ◌+◌, ◌*◌, ◌<◌, ◌≤◌, ◌⊎◌, false, length, slice_index_or};
+ghost use Rattle.std.specs.Prelude.{◌≡◌, ℕ, ◌+◌, ◌*◌, ◌<◌, ◌≤◌, ◌⊎◌, false, length, slice_index, slice_index_or};
 ghost use Rattle.isdbt_base.specs.Numbers.{rate_steps, rate_bits};
-ghost use Rattle.viterbi_hard.specs.Steps.{decision_of, nothing, received_from, sends_x, sends_y, sent_before, used_at};
+ghost use Rattle.viterbi_hard.specs.States.{place_of};
+ghost use Rattle.viterbi_hard.specs.Steps.{decision_of, read_of, received_from, sends_x, sends_y, sent_before, step_at, used_at};
 
 use isdbt_base::{Rate, rate_pair};
 
@@ -26,11 +27,26 @@ pub struct Received {
     pub y: Decision,
 }
 
-/// Nothing was read.
-pub const NOTHING: Received = Received {
-    x: Decision::Punctured,
-    y: Decision::Punctured,
-};
+/// What was read in a place as a number.
+#[inline(always)]
+fn place(decision: Decision) -> u8
+    ensures row { result ≡ place_of decision }
+    ensures within { result < 3 }
+{
+    match decision {
+        Decision::Punctured => 0,
+        Decision::Zero => 1,
+        Decision::One => 2,
+    }
+}
+
+/// What was read of a step as a number: X in the higher two bits, Y in the lower two.
+#[inline(always)]
+fn number(received: Received) -> u8
+    ensures { read_of result ≡ received }
+{
+    4 * place(received.x) + place(received.y)
+}
 
 /// Whether X of a step of the puncturing pattern is sent.
 #[inline(always)]
@@ -97,28 +113,29 @@ fn received_step(rate: Rate, bits: &[bool], at: usize, step: u32) -> Received
     Received { x, y }
 }
 
-/// Puts what was read of the steps of one pattern, whose bits begin at a place, to some steps from a place on.
+/// Puts the numbers of what was read of the steps of one pattern, whose bits begin at a place, to some steps from a place on.
 #[inline(always)]
-fn expand_pattern(rate: Rate, bits: &[bool], at: usize, steps: &mut [Received], first: usize)
+fn expand_pattern(rate: Rate, bits: &[bool], at: usize, steps: &mut [u8], first: usize)
     requires bits { at + rate_bits rate ≤ length bits.now }
     requires room { first + rate_steps rate ≤ length steps.old }
-    ensures steps { (j : ℕ) → j < rate_steps rate → slice_index_or steps.new (first + j) nothing ≡ received_from rate (λ i. slice_index_or bits.now i false) (at + sent_before rate j) j }
-    ensures others { (i : ℕ) → i < first → slice_index_or steps.new i nothing ≡ slice_index_or steps.old i nothing }
+    ensures steps { (j : ℕ) → j < rate_steps rate → step_at steps.new (first + j) ≡ received_from rate (λ i. slice_index_or bits.now i false) (at + sent_before rate j) j }
+    ensures others { (i : ℕ) → i < first → slice_index steps.new i ≡ slice_index steps.old i }
 {
     let (count, _) = rate_pair(rate);
     let mut next = at;
     for step in 0..count {
-        steps[first + step as usize] = received_step(rate, bits, next, step);
+        let received = received_step(rate, bits, next, step);
+        steps[first + step as usize] = number(received);
         next += used(rate, step);
     }
 }
 
 /// Puts what was read of the steps of so many patterns, whose bits begin at a place, to the front of some steps.
 #[inline(always)]
-fn expand_at(rate: Rate, bits: &[bool], at: usize, steps: &mut [Received], count: usize)
+fn expand_at(rate: Rate, bits: &[bool], at: usize, steps: &mut [u8], count: usize)
     requires bits { at + rate_bits rate * count ≤ length bits.now }
     requires room { rate_steps rate * count ≤ length steps.old }
-    ensures { (q j : ℕ) → q < count → j < rate_steps rate → slice_index_or steps.new (rate_steps rate * q + j) nothing ≡ received_from rate (λ i. slice_index_or bits.now i false) (at + rate_bits rate * q + sent_before rate j) j }
+    ensures { (q j : ℕ) → q < count → j < rate_steps rate → step_at steps.new (rate_steps rate * q + j) ≡ received_from rate (λ i. slice_index_or bits.now i false) (at + rate_bits rate * q + sent_before rate j) j }
 {
     let (pattern_steps, pattern_bits) = rate_pair(rate);
     for pattern in 0..count {
@@ -128,10 +145,10 @@ fn expand_at(rate: Rate, bits: &[bool], at: usize, steps: &mut [Received], count
 }
 
 /// The same, by code of its own for each rate, in which the puncturing pattern is a constant.
-pub fn expand(rate: Rate, bits: &[bool], at: usize, steps: &mut [Received], count: usize)
+pub fn expand(rate: Rate, bits: &[bool], at: usize, steps: &mut [u8], count: usize)
     requires bits { at + rate_bits rate * count ≤ length bits.now }
     requires room { rate_steps rate * count ≤ length steps.old }
-    ensures { (q j : ℕ) → q < count → j < rate_steps rate → slice_index_or steps.new (rate_steps rate * q + j) nothing ≡ received_from rate (λ i. slice_index_or bits.now i false) (at + rate_bits rate * q + sent_before rate j) j }
+    ensures { (q j : ℕ) → q < count → j < rate_steps rate → step_at steps.new (rate_steps rate * q + j) ≡ received_from rate (λ i. slice_index_or bits.now i false) (at + rate_bits rate * q + sent_before rate j) j }
 {
     match rate {
         Rate::R12 => expand_at(Rate::R12, bits, at, steps, count),

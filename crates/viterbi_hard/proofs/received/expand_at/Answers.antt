@@ -1,7 +1,7 @@
 use Rattle.std.proofs.Common.{◌≡◌, ◌+◌, ◌*◌, ◌≤◌, ◌∙◌, suc, arith, ap, false, get_or, inl, inr, sym}
 use Rattle.std.proofs.Math.Nat.{eq-or-lt_of_le, mul-le-mul_left}
 use Rattle.isdbt_base.specs.Numbers.{rate_bits, rate_steps}
-use Rattle.viterbi_hard.specs.Steps.{nothing, received_from, sent_before}
+use Rattle.viterbi_hard.specs.Steps.{read_of, step_at, received_from, sent_before}
 use Rattle.viterbi_hard.proofs.received.expand_at.Goals as goal
 
 pub loop-pattern-init : goal.loop-pattern-init
@@ -15,14 +15,14 @@ loop-pattern-preserved c = record {
       let upto : q ≤ c.loop-pattern.pattern = omega arith in
       elim (eq-or-lt_of_le upto) [
         | inl e ↦
-            ap (λ m. get_or c.expand_pattern.new.steps (rate_steps c.args.rate * m + j) nothing) e
-            ∙ ap (λ m. get_or c.expand_pattern.new.steps (m + j) nothing) place
+            ap (λ m. step_at c.expand_pattern.new.steps (rate_steps c.args.rate * m + j)) e
+            ∙ ap (λ m. step_at c.expand_pattern.new.steps (m + j)) place
             ∙ c.expand_pattern.ensures.steps j k
             ∙ ap (λ a. received_from c.args.rate (λ i. get_or c.args.bits.now i false) (a + sent_before c.args.rate j) j) from
             ∙ ap (λ m. received_from c.args.rate (λ i. get_or c.args.bits.now i false) (c.args.at + rate_bits c.args.rate * m + sent_before c.args.rate j) j) (sym e)
         | inr l ↦
             let next : suc q ≤ c.loop-pattern.pattern = omega arith in
-            c.expand_pattern.ensures.others (rate_steps c.args.rate * q + j) (omega (arith, place, mul-le-mul_left (rate_steps c.args.rate) next))
+            ap read_of (c.expand_pattern.ensures.others (rate_steps c.args.rate * q + j) (omega (arith, place, mul-le-mul_left (rate_steps c.args.rate) next)))
             ∙ c.loop-pattern.invariant.set q j l k
       ];
 }

@@ -1,15 +1,15 @@
 use Rattle.std.proofs.Common.{◌≡◌, ◌≢◌, ◌+◌, ◌<◌, ◌≤◌, ◌∙◌, suc, arith, false, get_or, set, length, refl, sym, ap, add-zero, get_or-set_same, get_or-set_other, inl, inr}
 use Rattle.std.proofs.Math.Nat.{eq-or-lt_of_le}
 use Rattle.isdbt_base.specs.Numbers.{rate_steps}
-use Rattle.viterbi_hard.specs.Steps.{nothing, received_from, sent_before}
+use Rattle.viterbi_hard.specs.Steps.{read_of, step_at, received_from, sent_before}
 use Rattle.viterbi_hard.proofs.FeedLaws.{at-fits}
 use Rattle.viterbi_hard.proofs.received.expand_pattern.Goals as goal
 
 pub loop-step-init : goal.loop-step-init
 loop-step-init c = record { next = sym (add-zero c.args.at); set = λ j h. absurd (omega arith); others = λ i h. refl }
 
-pub received_step-requires : goal.received_step-requires
-received_step-requires c =
+pub received_step-received-requires : goal.received_step-received-requires
+received_step-received-requires c =
     let low : c.loop-step.step < rate_steps c.args.rate = omega (arith, c.rate_pair-count.ensures.steps) in
     omega (arith, at-fits c.args.rate c.args.at c.loop-step.step c.loop-step.next c.loop-step.invariant.next low, c.requires.bits)
 
@@ -30,18 +30,19 @@ loop-step-preserved c =
           let upto : j ≤ c.loop-step.step = omega arith in
           elim (eq-or-lt_of_le upto) [
             | inl e ↦
-                ap (λ k. get_or (set c.loop-step.steps (c.args.first + c.loop-step.step) c.received_step.result) (c.args.first + k) nothing) e
-                ∙ get_or-set_same c.loop-step.steps (c.args.first + c.loop-step.step) c.received_step.result nothing within
-                ∙ c.received_step.ensures
+                ap (λ k. step_at (set c.loop-step.steps (c.args.first + c.loop-step.step) c.number.result) (c.args.first + k)) e
+                ∙ ap read_of (get_or-set_same c.loop-step.steps (c.args.first + c.loop-step.step) c.number.result 0 within)
+                ∙ c.number.ensures
+                ∙ c.received_step-received.ensures
                 ∙ ap (λ a. received_from c.args.rate (λ i. get_or c.args.bits.now i false) a c.loop-step.step) c.loop-step.invariant.next
                 ∙ ap (λ k. received_from c.args.rate (λ i. get_or c.args.bits.now i false) (c.args.at + sent_before c.args.rate k) k) (sym e)
             | inr l ↦
                 let ne : c.args.first + j ≢ c.args.first + c.loop-step.step = omega arith in
-                get_or-set_other c.loop-step.steps (c.args.first + c.loop-step.step) (c.args.first + j) c.received_step.result nothing ne ∙ c.loop-step.invariant.set j l
+                ap read_of (get_or-set_other c.loop-step.steps (c.args.first + c.loop-step.step) (c.args.first + j) c.number.result 0 ne) ∙ c.loop-step.invariant.set j l
           ];
       others = λ i h.
           let ne : i ≢ c.args.first + c.loop-step.step = omega arith in
-          get_or-set_other c.loop-step.steps (c.args.first + c.loop-step.step) i c.received_step.result nothing ne ∙ c.loop-step.invariant.others i h;
+          get_or-set_other c.loop-step.steps (c.args.first + c.loop-step.step) i c.number.result 0 ne ∙ c.loop-step.invariant.others i h;
     }
 
 pub returns-clause-steps : goal.returns-clause-steps

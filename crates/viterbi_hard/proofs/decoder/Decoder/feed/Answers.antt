@@ -3,7 +3,7 @@ use Rattle.std.proofs.lemmas.List.{get_or-take, length-take, length-take-le}
 use Rattle.isdbt_base.specs.declared.kinds.Rate.{Rate}
 use Rattle.isdbt_base.specs.Numbers.{rate_steps, rate_bits}
 use Rattle.viterbi_hard.specs.StandsFor.{FeedsTo, steps_in}
-use Rattle.viterbi_hard.specs.Steps.{nothing, received_from, sent_before}
+use Rattle.viterbi_hard.specs.Steps.{read_of, step_at, received_from, sent_before}
 use Rattle.viterbi_hard.proofs.FeedLaws.{bits-fit, buffer-fits, expanded, feed-count, feed-none, feed-state, steps-fit}
 use Rattle.viterbi_hard.proofs.decoder.Decoder.feed.Goals as goal
 
@@ -49,8 +49,8 @@ loop-done-preserved c =
     let long : length (take (c.min-count.result * c.rate_pair-pattern_steps.result.0) c.expand.new.steps) ≡ c.min-count.result * c.rate_pair-pattern_steps.result.0 = length-take-le (c.min-count.result * c.rate_pair-pattern_steps.result.0) c.expand.new.steps size in
     let at : c.loop-done.done * c.rate_pair-pattern_steps.result.1 ≡ rate_bits c.args.self.now.rate * c.loop-done.done = omega (arith, ap (λ m. c.loop-done.done * m) c.rate_pair-pattern_steps.ensures.bits) in
     let room = bits-fit c.args.self.now.rate (length c.args.bits.now) c.loop-done.done c.min-count.result c.rate_pair-pattern_steps.result.1 c.rate_pair-pattern_steps.ensures.bits more in
-    let Expands : Rate → Type 0 = λ rate. (q j : ℕ) → q < c.min-count.result → j < rate_steps rate → get_or c.expand.new.steps (rate_steps rate * q + j) nothing ≡ received_from rate (λ i. get_or c.args.bits.now i false) (c.loop-done.done * c.rate_pair-pattern_steps.result.1 + rate_bits rate * q + sent_before rate j) j in
-    let own : (q j : ℕ) → q < c.min-count.result → j < rate_steps c.args.self.now.rate → get_or c.expand.new.steps (rate_steps c.args.self.now.rate * q + j) nothing ≡ received_from c.args.self.now.rate (λ i. get_or c.args.bits.now i false) (rate_bits c.args.self.now.rate * c.loop-done.done + rate_bits c.args.self.now.rate * q + sent_before c.args.self.now.rate j) j =
+    let Expands : Rate → Type 0 = λ rate. (q j : ℕ) → q < c.min-count.result → j < rate_steps rate → step_at c.expand.new.steps (rate_steps rate * q + j) ≡ received_from rate (λ i. get_or c.args.bits.now i false) (c.loop-done.done * c.rate_pair-pattern_steps.result.1 + rate_bits rate * q + sent_before rate j) j in
+    let own : (q j : ℕ) → q < c.min-count.result → j < rate_steps c.args.self.now.rate → step_at c.expand.new.steps (rate_steps c.args.self.now.rate * q + j) ≡ received_from c.args.self.now.rate (λ i. get_or c.args.bits.now i false) (rate_bits c.args.self.now.rate * c.loop-done.done + rate_bits c.args.self.now.rate * q + sent_before c.args.self.now.rate j) j =
     λ q j h k. subst Expands rated c.expand.ensures q j h k ∙ ap (λ a. received_from c.args.self.now.rate (λ i. get_or c.args.bits.now i false) (a + rate_bits c.args.self.now.rate * q + sent_before c.args.self.now.rate j) j) at in
     let next : rate_steps c.args.self.now.rate * c.loop-done.done + length (take (c.min-count.result * c.rate_pair-pattern_steps.result.0) c.expand.new.steps) ≡ rate_steps c.args.self.now.rate * (c.loop-done.done + c.min-count.result) = omega (arith, long, count) in
     record {
@@ -61,7 +61,7 @@ loop-done-preserved c =
           subst (λ m. FeedsTo c.args.self.now c.run-decided.new.self c.args.bits.now c.args.out.now c.run-decided.new.out c.run-decided.result m) next
           (c.run-decided.ensures.fed c.args.self.now c.args.bits.now c.args.out.now (rate_steps c.args.self.now.rate * c.loop-done.done)
           (λ read n s g i h.
-          get_or-take (c.min-count.result * c.rate_pair-pattern_steps.result.0) c.expand.new.steps i nothing (omega (arith, long))
+          ap read_of (get_or-take (c.min-count.result * c.rate_pair-pattern_steps.result.0) c.expand.new.steps i 0 (omega (arith, long)))
           ∙ expanded c.args.self.now.rate c.args.bits.now c.expand.new.steps c.loop-done.done c.min-count.result (omega (arith, room, at)) own read n s.whole g i (omega (arith, long, count)))
           c.loop-done.invariant.feed);
     }

@@ -1,6 +1,6 @@
-use Rattle.std.proofs.Common.{◌≡◌, ◌+◌, ◌∙◌, arith, ap, get_or, set, length, refl, sym, subst, add-zero}
+use Rattle.std.proofs.Common.{◌≡◌, ◌+◌, ◌∙◌, arith, ap, set, length, refl, sym, subst, add-zero}
 use Rattle.viterbi_hard.specs.StandsFor.{FeedsTo}
-use Rattle.viterbi_hard.specs.Steps.{nothing, received_at}
+use Rattle.viterbi_hard.specs.Steps.{step_at, received_at}
 use Rattle.viterbi_hard.proofs.FeedLaws.{feed-block, feed-more, feed-out}
 use Rattle.viterbi_hard.proofs.decoder.Decoder.run.Goals as goal
 
@@ -52,7 +52,7 @@ loop-at-preserved-then-self-lt-WAIT c = record {
   feed = λ start bits before done r f.
       let next : done + c.loop-at.at + 1 ≡ done + (c.loop-at.at + 1) = omega arith in
       subst (λ m. FeedsTo start (record c.step-bit.new.self { steps = c.step-bit.new.self.steps + 1 }) bits before c.loop-at.out c.loop-at.end m) next
-      (feed-more start c.loop-at.self (record c.step-bit.new.self { steps = c.step-bit.new.self.steps + 1 }) bits before c.loop-at.out c.loop-at.end (done + c.loop-at.at) (get_or c.args.steps.now c.loop-at.at nothing) c.step-bit.result
+      (feed-more start c.loop-at.self (record c.step-bit.new.self { steps = c.step-bit.new.self.steps + 1 }) bits before c.loop-at.out c.loop-at.end (done + c.loop-at.at) (step_at c.args.steps.now c.loop-at.at) c.step-bit.result
       (c.loop-at.invariant.feed start bits before done r f)
       (λ rs k. let m = c.step-bit.ensures.keeps rs k in record { young = m.young; few = m.few; holds = m.holds; tags = m.tags; traced = m.traced })
       c.step-bit.ensures.decides c.step-bit.ensures.rate
@@ -74,7 +74,7 @@ loop-at-preserved c = record {
   feed = λ start bits before done r f.
       let next : done + c.loop-at.at + 1 ≡ done + (c.loop-at.at + 1) = omega arith in
       subst (λ m. FeedsTo start c.step-bit.new.self bits before (set c.loop-at.out c.loop-at.end c.step-bit.result) (c.loop-at.end + 1) m) next
-      (feed-out start c.loop-at.self c.step-bit.new.self bits before c.loop-at.out c.loop-at.end (done + c.loop-at.at) (get_or c.args.steps.now c.loop-at.at nothing) c.step-bit.result
+      (feed-out start c.loop-at.self c.step-bit.new.self bits before c.loop-at.out c.loop-at.end (done + c.loop-at.at) (step_at c.args.steps.now c.loop-at.at) c.step-bit.result
       (c.loop-at.invariant.feed start bits before done r f)
       c.step-bit.ensures.keeps c.step-bit.ensures.decides c.step-bit.ensures.rate
       (λ read n s g. r read n s g c.loop-at.at c.loop-at-test.true)
