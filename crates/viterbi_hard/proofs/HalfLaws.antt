@@ -1,8 +1,8 @@
 -- Selecting by a comparison, and the least lane by halves.
-use Rattle.std.proofs.Common.{◌≡◌, ℕ, ◌+◌, ◌-◌, ◌++◌, get_or, ◌<◌, ◌≤◌, ◌^◌, inl, inr, Bool, true, false, cond, List, length, map, refl, ◌∙◌, ap, sym, arith, w8, leb, length-append, Contains, All}
+use Rattle.std.proofs.Common.{◌≡◌, ℕ, ◌+◌, ◌-◌, ◌++◌, get_or, ◌<◌, ◌≤◌, ◌^◌, inl, inr, Bool, true, false, cond, List, length, map, refl, ◌∙◌, ap, sym, arith, w8, leb, length-append, Contains, All, eqb, ◌%◌}
 use Rattle.std.specs.Prelude.{nat_lt}
-use Rattle.std.proofs.lemmas.Bool.{cases_lt, leb-true, leb-false, ltb-true, ltb-false}
-use Rattle.std.proofs.lemmas.List.{get_or_append_left, get_or_default}
+use Rattle.std.proofs.lemmas.Bool.{agree_below_at, cases_lt, eqb-true, leb-true, leb-false, ltb-true, ltb-false}
+use Rattle.std.proofs.lemmas.List.{get_or_append_left, get_or_default, get_or-map, length-map}
 use Rattle.std.proofs.lemmas.Simd.{tops_compared, get_or-sel_l, get_or-zip2, length-zip2, length-sel_l, pick_l-range_with_len, get_or-chunk, length-chunk}
 use Rattle.std.specs.List.{range_with_len}
 use lib.Lanes.{pick_l, zip2, top, sel_l}
@@ -117,3 +117,65 @@ cond_turned a b x y = by_case (leb a b) (nat_lt b a) refl refl
     by_case true false e f = refl
     by_case false true e f = refl
     by_case false false e f = let l : b < a = leb-false a b e in let k : a ≤ b = ltb-false b a f in absurd (omega arith)
+
+-- ---- sixteen lanes, folded by a rotation
+
+-- the places of a rotation
+abbrev pub turn : ℕ → List ℕ
+turn k = range_with_len k (16 - k) ++ range_with_len 0 k
+
+abbrev IsTurn : ℕ → Type 0
+IsTurn k = (i : ℕ) → i < 16 → eqb (get_or (turn k) i 0) ((k + i) % 16) ≡ true
+
+pub turn_eight : IsTurn 8
+turn_eight i h = agree_below_at (λ i. eqb (get_or (turn 8) i 0) ((8 + i) % 16)) (λ _. true) 16 i refl h
+
+pub turn_four : IsTurn 4
+turn_four i h = agree_below_at (λ i. eqb (get_or (turn 4) i 0) ((4 + i) % 16)) (λ _. true) 16 i refl h
+
+pub turn_two : IsTurn 2
+turn_two i h = agree_below_at (λ i. eqb (get_or (turn 2) i 0) ((2 + i) % 16)) (λ _. true) 16 i refl h
+
+pub turn_one : IsTurn 1
+turn_one i h = agree_below_at (λ i. eqb (get_or (turn 1) i 0) ((1 + i) % 16)) (λ _. true) 16 i refl h
+
+module _ (v : List ℕ) (k : ℕ) (long : length v ≡ 16) (size : length (turn k) ≡ 16) (is : IsTurn k) where
+  abbrev turned : List ℕ
+  turned = pick_l 0 (v ++ v) (turn k)
+
+  abbrev pub folded : List ℕ
+  folded = chosen v turned v turned
+
+  length-turned : length turned ≡ 16
+  length-turned = length-map (turn k) (λ j. get_or (v ++ v) j 0) ∙ size
+
+  turned_at : (i : ℕ) → i < 16 → get_or turned i 0 ≡ get_or v ((k + i) % 16) 0
+  turned_at i h =
+      get_or-map (λ j. get_or (v ++ v) j 0) (turn k) i 0 0 (omega (arith, size))
+      ∙ ap (λ j. get_or (v ++ v) j 0) (eqb-true _ _ (is i h))
+      ∙ get_or_append_left v v 0 ((k + i) % 16) (omega arith)
+
+  folded_at : (i : ℕ) → i < 16 → get_or folded i 0 ≡ cond (nat_lt (get_or v i 0) (get_or turned i 0)) (get_or v i 0) (get_or turned i 0)
+  folded_at i h = chosen_at v turned v turned 16 i long length-turned long length-turned h
+
+  either_le : (a b : ℕ) → (cond (nat_lt a b) a b ≤ a) × (cond (nat_lt a b) a b ≤ b)
+  either_le a b = by_case (nat_lt a b) refl
+    where
+      by_case : (t : Bool) → nat_lt a b ≡ t → (cond t a b ≤ a) × (cond t a b ≤ b)
+      by_case true e = let lt : a < b = ltb-true a b e in (omega arith, omega arith)
+      by_case false e = let low : b ≤ a = ltb-false a b e in (omega arith, omega arith)
+
+  pub folded_here : (i : ℕ) → i < 16 → get_or folded i 0 ≤ get_or v i 0
+  folded_here i h = omega (arith, folded_at i h, (either_le (get_or v i 0) (get_or turned i 0)).0)
+
+  pub folded_there : (i : ℕ) → i + k < 16 → get_or folded i 0 ≤ get_or v (i + k) 0
+  folded_there i lt =
+      let place : (k + i) % 16 ≡ i + k = omega arith in
+      omega (arith, folded_at i (omega arith), turned_at i (omega arith), ap (λ m. get_or v m 0) place, (either_le (get_or v i 0) (get_or turned i 0)).1)
+
+  pub folded_in : (i : ℕ) → i < 16 → (j : ℕ) × ((j < 16) × (get_or folded i 0 ≡ get_or v j 0))
+  folded_in i h = by_case (nat_lt (get_or v i 0) (get_or turned i 0)) refl
+    where
+      by_case : (t : Bool) → nat_lt (get_or v i 0) (get_or turned i 0) ≡ t → (j : ℕ) × ((j < 16) × (get_or folded i 0 ≡ get_or v j 0))
+      by_case true e = (i, (h, folded_at i h ∙ ap (λ b. cond b (get_or v i 0) (get_or turned i 0)) e))
+      by_case false e = ((k + i) % 16, (omega arith, folded_at i h ∙ ap (λ b. cond b (get_or v i 0) (get_or turned i 0)) e ∙ turned_at i h))

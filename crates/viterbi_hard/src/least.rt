@@ -1,42 +1,59 @@
 //! The least lane, and the first state that has it.
 
-ghost use Rattle.std.specs.Prelude.{◌≡◌, ℕ, ◌<◌, ◌≤◌, cond, nat_eq, slice_index, All, Contains};
+ghost use Rattle.std.specs.Prelude.{◌≡◌, ℕ, ◌+◌, ◌<◌, ◌≤◌, cond, nat_eq, slice_index, All, Contains};
 ghost use Rattle.viterbi_hard.specs.States.{natural_of};
 
 use std::simd::prelude::*;
 
+/// The lesser of each two lanes that lie so far apart, in the first ones; this is the form that compilers know.
+#[inline(always)]
+fn folded_by_eight(v: u8x16) -> u8x16
+    ensures here { (i : ℕ) → i < 8 → slice_index result i ≤ slice_index v i }
+    ensures there { (i : ℕ) → i < 8 → slice_index result i ≤ slice_index v (i + 8) }
+    ensures lane { (i : ℕ) → i < 16 → (j : ℕ) × ((j < 16) × (slice_index result i ≡ slice_index v j)) }
+{
+    v.simd_min(v.rotate_elements_left::<8>())
+}
+
+#[inline(always)]
+fn folded_by_four(v: u8x16) -> u8x16
+    ensures here { (i : ℕ) → i < 4 → slice_index result i ≤ slice_index v i }
+    ensures there { (i : ℕ) → i < 4 → slice_index result i ≤ slice_index v (i + 4) }
+    ensures lane { (i : ℕ) → i < 16 → (j : ℕ) × ((j < 16) × (slice_index result i ≡ slice_index v j)) }
+{
+    v.simd_min(v.rotate_elements_left::<4>())
+}
+
+#[inline(always)]
+fn folded_by_two(v: u8x16) -> u8x16
+    ensures here { (i : ℕ) → i < 2 → slice_index result i ≤ slice_index v i }
+    ensures there { (i : ℕ) → i < 2 → slice_index result i ≤ slice_index v (i + 2) }
+    ensures lane { (i : ℕ) → i < 16 → (j : ℕ) × ((j < 16) × (slice_index result i ≡ slice_index v j)) }
+{
+    v.simd_min(v.rotate_elements_left::<2>())
+}
+
+#[inline(always)]
+fn folded_by_one(v: u8x16) -> u8x16
+    ensures here { (i : ℕ) → i < 1 → slice_index result i ≤ slice_index v i }
+    ensures there { (i : ℕ) → i < 1 → slice_index result i ≤ slice_index v (i + 1) }
+    ensures lane { (i : ℕ) → i < 16 → (j : ℕ) × ((j < 16) × (slice_index result i ≡ slice_index v j)) }
+{
+    v.simd_min(v.rotate_elements_left::<1>())
+}
+
 /// The least lane, by halves.
-#[inline(always)]
-fn least_of_two(v: u8x2) -> u8
-    ensures least { All (λ x. result ≤ x) v }
-    ensures lane { Contains v result }
-{
-    let pair = v.to_array();
-    if pair[1] < pair[0] { pair[1] } else { pair[0] }
-}
-
-#[inline(always)]
-fn least_of_four(v: u8x4) -> u8
-    ensures least { All (λ x. result ≤ x) v }
-    ensures lane { Contains v result }
-{
-    least_of_two(v.extract::<0, 2>().simd_min(v.extract::<2, 2>()))
-}
-
-#[inline(always)]
-fn least_of_eight(v: u8x8) -> u8
-    ensures least { All (λ x. result ≤ x) v }
-    ensures lane { Contains v result }
-{
-    least_of_four(v.extract::<0, 4>().simd_min(v.extract::<4, 4>()))
-}
-
 #[inline(always)]
 fn least_of_sixteen(v: u8x16) -> u8
     ensures least { All (λ x. result ≤ x) v }
     ensures lane { Contains v result }
 {
-    least_of_eight(v.extract::<0, 8>().simd_min(v.extract::<8, 8>()))
+    let eight = folded_by_eight(v);
+    let four = folded_by_four(eight);
+    let two = folded_by_two(four);
+    let one = folded_by_one(two);
+    let lanes = one.to_array();
+    lanes[0]
 }
 
 #[inline(always)]

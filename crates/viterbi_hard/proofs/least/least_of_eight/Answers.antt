@@ -1,8 +1,0 @@
-use Rattle.viterbi_hard.proofs.HalfLaws.{least_below, least_lane}
-use Rattle.viterbi_hard.proofs.least.least_of_eight.Goals as goal
-
-pub returns : goal.returns
-returns c = record {
-  least = least_below c.args.v 4 _ c.fits-v.0 c.least_of_four.ensures.least;
-  lane = least_lane c.args.v 4 _ c.fits-v.0 c.least_of_four.ensures.lane;
-}
