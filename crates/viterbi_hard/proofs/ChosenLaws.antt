@@ -68,7 +68,6 @@ some_chosen rs = let best = best_below rs 63 (omega arith) in (best.0, best.1, c
 pub label_ahead : (label age : ℕ) (rs : List Received) → ((n : ℕ) → n < 64 → IsLabel label (drop 120 (path_at (drop age rs) n))) → HasLabel label age rs
 label_ahead label age rs f =
     let some = some_chosen rs in
-    let s : TrellisState = newest_state (drop age (path_at rs some.0)) in
     record {
       lane = some.0;
       chosen = some.2;

@@ -135,11 +135,8 @@ pub expanded : (rate : Rate) (bits : List Bool) (steps : List ℕ) (p count : �
     → (read : ℕ → Bool) (n : ℕ) → n % rate_steps rate ≡ 0 → GoesOn rate read n bits
     → (i : ℕ) → i < rate_steps rate * count → step_at steps i ≡ received_at rate read (n + (rate_steps rate * p + i))
 expanded rate bits steps p count room f read n k g i h =
-    let q : ℕ = i / rate_steps rate in
-    let j : ℕ = i % rate_steps rate in
     let low = rest-lt rate i in
     let lt = div-lt rate i count h in
-    let first : ℕ = rate_bits rate * p + rate_bits rate * q in
     let parts : rate_steps rate * (i / rate_steps rate) + i % rate_steps rate ≡ i = whole rate i in
     let back : rate_bits rate * (p + i / rate_steps rate) ≡ rate_bits rate * p + rate_bits rate * (i / rate_steps rate) = omega arith in
     let on : rate_steps rate * (p + i / rate_steps rate) + i % rate_steps rate ≡ rate_steps rate * p + i = omega (arith, parts) in

@@ -98,7 +98,6 @@ places_ok v fits =
 pub within_at : (quarters places : List ℕ) (i : ℕ) → IsVector places → i < 64 →
     get_or (swz_l w8 16 quarters 0 (zip2 bit_and places (replicate 64 15))) i 0 ≡ get_or quarters (16 * (i / 16) + get_or places i 0 % 16) 0
 within_at quarters places i f h =
-    let js : List ℕ = zip2 bit_and places (replicate 64 15) in
     let is : get_or (zip2 bit_and places (replicate 64 15)) i 0 ≡ get_or places i 0 % 16 = masked_at places 15 i f.0 h ∙ and_mask (get_or places i 0) 4 in
     let place : 16 * ((0 + i) / 16) + get_or (zip2 bit_and places (replicate 64 15)) i 0 ≡ 16 * (i / 16) + get_or places i 0 % 16 = omega (arith, is) in
     get_or-swz_l_below w8 16 quarters 0 (zip2 bit_and places (replicate 64 15)) i (omega (arith, length-zip2 bit_and places (replicate 64 15) f.0, f.0)) (omega (arith, is))

@@ -208,7 +208,6 @@ nothing_left m l i h = elim (cases_lt i 6) [
 bits_ago : (m : ℕ) (rs : List Received) (s : TrellisState) (i : ℕ)
     → bit (path_of (newest_state (drop m (path_of s (survivor rs s)))) (survivor (drop m rs) (newest_state (drop m (path_of s (survivor rs s)))))) i ≡ bit (path_of s (survivor rs s)) (m + i)
 bits_ago m rs s i =
-    let p : List Bool = path_of s (survivor rs s) in
     elim (cases_lt (length rs) m) [
       | inl lt ↦
           ap (λ q. bit (path_of (newest_state (drop m (path_of s (survivor rs s)))) (survivor q (newest_state (drop m (path_of s (survivor rs s)))))) i) (drop_all m rs (omega arith))

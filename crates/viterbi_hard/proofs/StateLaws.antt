@@ -14,9 +14,6 @@ use Rattle.viterbi_hard.proofs.TrellisLaws.{branch_metric_le}
 pub odd_same : (a b : ℕ) → a % 2 ≡ b % 2 → odd a ≡ odd b
 odd_same a b h = ap (λ n. nat_eq n 1) h
 
-odd_is : (a : ℕ) (b : Bool) → nat_eq (a % 2) 1 ≡ b → odd a ≡ b
-odd_is a b h = h
-
 -- the state one step before that of lane n, by the bit that left
 pub previous-even : (n : ℕ) → n < 64 → previous (state_of n) false ≡ state_of (n / 2)
 previous-even n h =

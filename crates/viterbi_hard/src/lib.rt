@@ -8,8 +8,12 @@
 //!
 //! The least path is found by the algorithm of Viterbi. The six newest bits of a path are its trellis state, one of 64. Of
 //! all paths that end in a state the decoder keeps the least, the state's survivor, and its cost, the state's path metric;
-//! a step goes on from the survivors of the two states before (add, compare, select). Metrics and the newest bits of the
-//! survivors stand in 64 lanes of a byte each, so that a step is some dozens of vector instructions.
+//! a step goes on from the survivors of the two states before (add, compare, select). Metrics stand in 64 lanes of a byte
+//! each, and beside each a tag that says where the survivor was at the last boundary, one each eight steps; so a step is some
+//! dozens of vector instructions.
+//!
+//! At a boundary the tags are a map from lane to lane, and no survivor is moved. Maps are composed back until all lanes lead to
+//! one: the bits before are then those of the least path at every later step, and no least metric is searched for.
 //!
 //! No call takes memory.
 #![tactic(auto)]

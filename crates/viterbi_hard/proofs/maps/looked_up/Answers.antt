@@ -4,7 +4,6 @@ use Rattle.viterbi_hard.proofs.maps.looked_up.Goals as goal
 
 pub returns : goal.returns
 returns c = λ i h.
-    let t = get_or c.args.tags i 0 in
     looked_up_at c.args.map (get_or c.args.tags i 0) _ _ _ _ _ _ _ (lane_fits c.args.tags i c.fits-tags h)
     (c.by_bit.ensures i h) (c.by_bit-low.ensures i h) (c.by_bit-high.ensures i h)
     (c.within_quarter-first.ensures i h ∙ quarter_at c.args.map first_quarter 0 i (get_or c.args.tags i 0) c.fits-map.0 refl first_is (omega arith) h)

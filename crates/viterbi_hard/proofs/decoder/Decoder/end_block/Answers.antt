@@ -18,7 +18,6 @@ returns-then-self-lt7-clause-keeps c = λ rs k.
 
 pub returns-else-self-lt7-clause-keeps : goal.returns-else-self-lt7-clause-keeps
 returns-else-self-lt7-clause-keeps c = λ rs k.
-    let lane = c.least_of_all-least.ensures.lane in
     record {
       young = omega arith;
       few = omega arith;
