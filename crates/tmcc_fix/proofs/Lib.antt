@@ -1,0 +1,10 @@
+pub mod GeneratorParities
+pub mod Totals
+pub mod Places
+pub mod Parities
+pub mod Majority
+pub mod OneNear
+pub mod Differing
+pub mod Systematic
+pub mod Search
+pub mod Answered
