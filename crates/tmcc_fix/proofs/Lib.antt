@@ -1,5 +1,5 @@
 pub mod GeneratorParities
-pub mod Totals
+pub mod Sums
 pub mod Places
 pub mod Parities
 pub mod Majority

@@ -1,13 +1,14 @@
 -- The majority of the checks of a place tells whether it is wrong.
 use Rattle.std.proofs.Common.{◌≡◌, ℕ, zero, suc, ◌+◌, ◌-◌, ◌%◌, ◌≤◌, ◌<◌, Bool, true, false, refl, arith, ap, ◌∙◌, List, [], ◌∷◌, ◌++◌, length, get_or}
-use Rattle.std.specs.Prelude.{◌==◌, ◌&&◌, nat_lt, nat_le, not}
+use Rattle.std.specs.Prelude.{sum_by, ◌==◌, ◌&&◌, nat_lt, nat_le, not}
 use Rattle.std.specs.Int.{from_bool}
 use Rattle.std.proofs.lemmas.Bool.{agree_below, agree_below_at, and_parts, eqb-true, ltb-true, leb-true}
+use Rattle.std.proofs.lemmas.List.Sums.{sum_by-cons, sum_by-append}
 use Rattle.isdbt_base.specs.Bits.{◌⊕◌}
 use Rattle.tmcc_fix.specs.declared.checks.TheConstants.{RESIDUES}
-use Rattle.tmcc_fix.specs.Checks.{bit, place_of, total, parity_at, odd_at}
+use Rattle.tmcc_fix.specs.Checks.{bit, place_of, parity_at, odd_at}
 use Rattle.tmcc_fix.specs.NearCodewords.{differing, IsNear}
-use Rattle.tmcc_fix.proofs.Totals.{total-append, total-parity, count, nonzero, all_below, split-zero, range_total, range-front, range-same, range-zero, range-turn, total-le}
+use Rattle.tmcc_fix.proofs.Sums.{sums-parity, count, nonzero, all_below, split-zero, range_total, range-front, range-same, range-zero, range-turn, sums-le}
 use Rattle.tmcc_fix.proofs.Parities.{codeword-even}
 
 -- ---- the differences of the residues
@@ -81,18 +82,18 @@ around e (suc p) =
     ∙ turn ∙ around e p
 
 -- the errors at a place, and at the places that its checks cover besides
-few : (bits near : List Bool) (p : ℕ) → length bits ≡ 184 → IsNear bits near → error bits near (p % 273) + total (λ d. error bits near ((p + d) % 273)) (differences RESIDUES) ≤ 8
-unfolding total
+few : (bits near : List Bool) (p : ℕ) → length bits ≡ 184 → IsNear bits near → error bits near (p % 273) + sum_by (λ d. error bits near ((p + d) % 273)) (differences RESIDUES) ≤ 8
 few bits near p size is =
     let e = error bits near in
     let f = λ (d : ℕ). e ((p + d) % 273) in
-    let most = total-le f (0 ∷ differences RESIDUES) 273 differences_below distinct in
+    let most = sums-le f (0 ∷ differences RESIDUES) 273 differences_below distinct in
     let turned = around e p in
     let same = range-same (λ d. e (d % 273)) e 273 (λ i h. let s : i % 273 ≡ i = omega arith in ap e s) in
     let all = differing-range bits near 273 is.size (omega (arith, size)) in
     let close = is.close in
     let first : f 0 ≡ e (p % 273) = (let s : (p + 0) % 273 ≡ p % 273 = omega arith in ap e s) in
-    omega (arith, most, turned, same, all, close, first)
+    let more = sum_by-cons f 0 (differences RESIDUES) in
+    omega (arith, most, turned, same, all, close, first, more)
 
 -- ---- the checks of a place
 
@@ -100,44 +101,46 @@ few bits near p size is =
 place-row : (p a b : ℕ) → b < 273 → place_of ((p + a) % 273) b ≡ (p + (a + 273 - b) % 273) % 273
 place-row p a b h = omega arith
 
-total-row : (e : ℕ → ℕ) (p a : ℕ) (bs : List ℕ) → all_below 273 bs ≡ true → total (λ b. e (place_of ((p + a) % 273) b)) bs ≡ total (λ d. e ((p + d) % 273)) (row a bs)
-unfolding total row all_below
-total-row e p a [] t = refl
-total-row e p a (b ∷ bs) t =
+row-sum : (e : ℕ → ℕ) (p a : ℕ) (bs : List ℕ) → all_below 273 bs ≡ true → sum_by (λ b. e (place_of ((p + a) % 273) b)) bs ≡ sum_by (λ d. e ((p + d) % 273)) (row a bs)
+unfolding row all_below
+row-sum e p a [] t = refl
+row-sum e p a (b ∷ bs) t =
     let parts = and_parts (nat_lt b 273) (all_below 273 bs) t in
     let here = ap e (place-row p a b (ltb-true b 273 parts.0)) in
-    let rest = total-row e p a bs parts.1 in
-    omega (arith, here, rest)
+    let rest = row-sum e p a bs parts.1 in
+    let from = sum_by-cons (λ b. e (place_of ((p + a) % 273) b)) b bs in
+    let to = sum_by-cons (λ d. e ((p + d) % 273)) ((a + 273 - b) % 273) (row a bs) in
+    omega (arith, here, rest, from, to)
 
 -- the parity of a check of a word near a codeword is that of its errors
-parity-errors : (bits near : List Bool) (s : ℕ) → length bits ≡ 184 → IsNear bits near → s < 273 → parity_at bits s ≡ total (λ b. error bits near (place_of s b)) RESIDUES % 2
+parity-errors : (bits near : List Bool) (s : ℕ) → length bits ≡ 184 → IsNear bits near → s < 273 → parity_at bits s ≡ sum_by (λ b. error bits near (place_of s b)) RESIDUES % 2
 parity-errors bits near s size is h =
     let even = codeword-even near s (is.size ∙ size) is.codeword h in
-    let sum = total-parity (λ r. bit bits (place_of s r)) (λ r. bit near (place_of s r)) RESIDUES in
+    let sum = sums-parity (λ r. bit bits (place_of s r)) (λ r. bit near (place_of s r)) RESIDUES in
     omega (arith, even, sum)
 
 -- the parity of a check of p: the error at p, and those at its other places
 parity-place : (bits near : List Bool) (p a : ℕ) → length bits ≡ 184 → IsNear bits near → count 0 (row a RESIDUES) ≡ 1 →
-    parity_at bits ((p + a) % 273) ≡ (error bits near (p % 273) + total (λ d. error bits near ((p + d) % 273)) (nonzero (row a RESIDUES))) % 2
+    parity_at bits ((p + a) % 273) ≡ (error bits near (p % 273) + sum_by (λ d. error bits near ((p + d) % 273)) (nonzero (row a RESIDUES))) % 2
 parity-place bits near p a size is once =
     let e = error bits near in
     let f = λ (d : ℕ). e ((p + d) % 273) in
     let low : (p + a) % 273 < 273 = omega arith in
     let parity = parity-errors bits near ((p + a) % 273) size is low in
-    let line = total-row e p a RESIDUES residues_below in
+    let line = row-sum e p a RESIDUES residues_below in
     let split = split-zero f (row a RESIDUES) in
     let first : f 0 ≡ e (p % 273) = (let s : (p + 0) % 273 ≡ p % 273 = omega arith in ap e s) in
-    let whole : total (λ b. e (place_of ((p + a) % 273) b)) RESIDUES ≡ e (p % 273) + total f (nonzero (row a RESIDUES)) = line ∙ split ∙ rw once (omega (arith, first)) in
+    let whole : sum_by (λ b. e (place_of ((p + a) % 273) b)) RESIDUES ≡ e (p % 273) + sum_by f (nonzero (row a RESIDUES)) = line ∙ split ∙ rw once (omega (arith, first)) in
     parity ∙ ap (λ n. n % 2) whole
 
 -- the checks of some residues, by the parities of all checks
 abbrev odd_among : List ℕ → ℕ → List ℕ → ℕ
-odd_among parities p rs = total (λ a. get_or parities ((p + a) % 273) 0) rs
+odd_among parities p rs = sum_by (λ a. get_or parities ((p + a) % 273) 0) rs
 
 right_checks : (bits near : List Bool) (parities : List ℕ) (p : ℕ) (rs : List ℕ) → length bits ≡ 184 → IsNear bits near →
     ((s : ℕ) → s < 273 → get_or parities s 0 ≡ parity_at bits s) → once_each rs ≡ true → error bits near (p % 273) ≡ 0 →
-    odd_among parities p rs ≤ total (λ d. error bits near ((p + d) % 273)) (differences rs)
-unfolding total differences once_each
+    odd_among parities p rs ≤ sum_by (λ d. error bits near ((p + d) % 273)) (differences rs)
+unfolding differences once_each
 right_checks bits near parities p [] size is tells t right = omega arith
 right_checks bits near parities p (a ∷ rs) size is tells t right =
     let parts = and_parts (count 0 (row a RESIDUES) == 1) (once_each rs) t in
@@ -145,13 +148,14 @@ right_checks bits near parities p (a ∷ rs) size is tells t right =
     let here = tells ((p + a) % 273) (omega arith) in
     let parity = parity-place bits near p a size is (eqb-true _ _ parts.0) in
     let rest = right_checks bits near parities p rs size is tells parts.1 right in
-    let sum = total-append f (nonzero (row a RESIDUES)) (differences rs) in
-    omega (arith, here, parity, rest, sum, right)
+    let sum = sum_by-append f (nonzero (row a RESIDUES)) (differences rs) in
+    let more = sum_by-cons (λ b. get_or parities ((p + b) % 273) 0) a rs in
+    omega (arith, here, parity, rest, sum, more, right)
 
 wrong_checks : (bits near : List Bool) (parities : List ℕ) (p : ℕ) (rs : List ℕ) → length bits ≡ 184 → IsNear bits near →
     ((s : ℕ) → s < 273 → get_or parities s 0 ≡ parity_at bits s) → once_each rs ≡ true → error bits near (p % 273) ≡ 1 →
-    length rs ≤ odd_among parities p rs + total (λ d. error bits near ((p + d) % 273)) (differences rs)
-unfolding total differences once_each
+    length rs ≤ odd_among parities p rs + sum_by (λ d. error bits near ((p + d) % 273)) (differences rs)
+unfolding differences once_each
 wrong_checks bits near parities p [] size is tells t wrong = omega arith
 wrong_checks bits near parities p (a ∷ rs) size is tells t wrong =
     let parts = and_parts (count 0 (row a RESIDUES) == 1) (once_each rs) t in
@@ -159,8 +163,9 @@ wrong_checks bits near parities p (a ∷ rs) size is tells t wrong =
     let here = tells ((p + a) % 273) (omega arith) in
     let parity = parity-place bits near p a size is (eqb-true _ _ parts.0) in
     let rest = wrong_checks bits near parities p rs size is tells parts.1 wrong in
-    let sum = total-append f (nonzero (row a RESIDUES)) (differences rs) in
-    omega (arith, here, parity, rest, sum, wrong)
+    let sum = sum_by-append f (nonzero (row a RESIDUES)) (differences rs) in
+    let more = sum_by-cons (λ b. get_or parities ((p + b) % 273) 0) a rs in
+    omega (arith, here, parity, rest, sum, more, wrong)
 
 -- a right bit has at most eight odd checks
 pub right-few : (bits near : List Bool) (parities : List ℕ) (p : ℕ) → length bits ≡ 184 → IsNear bits near →
@@ -178,7 +183,7 @@ pub wrong-many : (bits near : List Bool) (parities : List ℕ) (p : ℕ) → len
 wrong-many bits near parities p size is tells h wrong =
     let same : p % 273 ≡ p = omega arith in
     let here : error bits near (p % 273) ≡ 1 = ap (error bits near) same ∙ wrong in
-    let checks : 17 ≤ odd_among parities p RESIDUES + total (λ d. error bits near ((p + d) % 273)) (differences RESIDUES) = wrong_checks bits near parities p RESIDUES size is tells residues_once here in
+    let checks : 17 ≤ odd_among parities p RESIDUES + sum_by (λ d. error bits near ((p + d) % 273)) (differences RESIDUES) = wrong_checks bits near parities p RESIDUES size is tells residues_once here in
     let most = few bits near p size is in
     omega (arith, checks, most, here)
 

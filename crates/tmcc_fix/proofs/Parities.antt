@@ -13,7 +13,7 @@ use Rattle.tmcc_word.proofs.Numbers.{number_bits-number}
 use Rattle.tmcc_fix.specs.declared.checks.TheConstants.{RESIDUES}
 use Rattle.tmcc_fix.specs.Checks.{bit, place_of, parity_at}
 use Rattle.tmcc_fix.proofs.GeneratorParities.{coefficient, polynomial_parity, generator-parity}
-use Rattle.tmcc_fix.proofs.Totals.{total-same, total-zero, total-parity}
+use Rattle.tmcc_fix.proofs.Sums.{sums-same, sums-zero, sums-parity}
 
 coefficient-xor : (a b i : ℕ) → coefficient (bit_xor a b) i ≡ (coefficient a i + coefficient b i) % 2
 coefficient-xor a b i =
@@ -33,14 +33,14 @@ parity-xor : (a b s : ℕ) → polynomial_parity (bit_xor a b) s ≡ (polynomial
 parity-xor a b s =
     let fa = λ (r : ℕ). coefficient a (place_of s r) in
     let fb = λ (r : ℕ). coefficient b (place_of s r) in
-    let e = total-parity fa fb RESIDUES in
-    ap (λ n. n % 2) (total-same (λ r. coefficient (bit_xor a b) (place_of s r)) (λ r. (fa r + fb r) % 2) RESIDUES (λ r. coefficient-xor a b (place_of s r)))
+    let e = sums-parity fa fb RESIDUES in
+    ap (λ n. n % 2) (sums-same (λ r. coefficient (bit_xor a b) (place_of s r)) (λ r. (fa r + fb r) % 2) RESIDUES (λ r. coefficient-xor a b (place_of s r)))
     ∙ omega (arith, e)
 
 -- a multiple of the generator
 multiple-parity : (q : List Bool) (s : ℕ) → length q ≤ 102 → s < 273 → polynomial_parity (generator_times q) s ≡ 0
 unfolding generator_times
-multiple-parity [] s h k = ap (λ n. n % 2) (total-zero (λ r. coefficient 0 (place_of s r)) RESIDUES (λ r. coefficient-zero (place_of s r)))
+multiple-parity [] s h k = ap (λ n. n % 2) (sums-zero (λ r. coefficient 0 (place_of s r)) RESIDUES (λ r. coefficient-zero (place_of s r)))
 multiple-parity (true ∷ qs) s h k =
     let first = generator-parity (length qs) s (omega arith) k in
     let rest = multiple-parity qs s (omega arith) k in
@@ -75,6 +75,6 @@ bit-coefficient bits i e =
 
 pub codeword-even : (bits : List Bool) (s : ℕ) → length bits ≡ 184 → IsCodeword bits → s < 273 → parity_at bits s ≡ 0
 codeword-even bits s e (q, size, is) h =
-    ap (λ n. n % 2) (total-same (λ r. bit bits (place_of s r)) (λ r. coefficient (bits_number bits) (place_of s r)) RESIDUES (λ r. bit-coefficient bits (place_of s r) e))
+    ap (λ n. n % 2) (sums-same (λ r. bit bits (place_of s r)) (λ r. coefficient (bits_number bits) (place_of s r)) RESIDUES (λ r. bit-coefficient bits (place_of s r) e))
     ∙ ap (λ n. polynomial_parity n s) (sym is)
     ∙ multiple-parity q s (omega (arith, size)) h

@@ -5,23 +5,26 @@ use Rattle.std.proofs.lemmas.List.{take-append-drop, take_more, length-take-le}
 use Rattle.std.proofs.Math.Seq.{take-append_seam, drop-append_seam}
 use Rattle.std.proofs.lemmas.Bool.{cases_Bool}
 use Rattle.std.proofs.lemmas.Bool.Decides.{leb_tells}
+use Rattle.isdbt_base.specs.Outcome.{first_some}
 use Rattle.tmcc_word.specs.CyclicCode.{parity_of}
 use Rattle.tmcc_word.proofs.Codewords.{codeword-parity}
 use Rattle.tmcc_fix.specs.declared.answer.Fixed.{Fixed}
 use Rattle.tmcc_fix.specs.declared.answer.Fixed.TheVariants.{Restored, Far}
 use Rattle.tmcc_fix.specs.Answers.{IsAnswer}
-use Rattle.tmcc_fix.specs.NearCodewords.{differing, IsNear, or_else, near_from, near_codeword}
+use Rattle.tmcc_fix.specs.NearCodewords.{differing, IsNear, near_from, near_codeword}
 use Rattle.tmcc_fix.specs.Corrected.{with_codeword, corrected}
 use Rattle.tmcc_fix.proofs.OneNear.{one_near}
 use Rattle.tmcc_fix.proofs.Systematic.{length-parity, parity-from_codeword}
 
-or_else-some : (a b : Option (List Bool)) (c : List Bool) → or_else a b ≡ Some c → (a ≡ Some c) ⊎ (b ≡ Some c)
-or_else-some None b c e = inr e
-or_else-some (Some a) b c e = inl e
+of_two-some : (a b : Option (List Bool)) (c : List Bool) → first_some (a ∷ b ∷ []) ≡ Some c → (a ≡ Some c) ⊎ (b ≡ Some c)
+of_two-some None None c e = cc
+of_two-some None (Some b) c e = inr e
+of_two-some (Some a) b c e = inl e
 
-or_else-none : (a b : Option (List Bool)) → or_else a b ≡ None → (a ≡ None) × (b ≡ None)
-or_else-none None b e = (refl, e)
-or_else-none (Some a) b e = cc
+of_two-none : (a b : Option (List Bool)) → first_some (a ∷ b ∷ []) ≡ None → (a ≡ None) × (b ≡ None)
+of_two-none None None e = (refl, refl)
+of_two-none None (Some b) e = cc
+of_two-none (Some a) b e = cc
 
 length-more : (info : List Bool) (b : Bool) (k : ℕ) → length info + suc k ≡ 102 → length (info ++ b ∷ []) + k ≡ 102
 length-more info b k e = let l = length-append info (b ∷ []) in omega (arith, l, e)
@@ -40,7 +43,7 @@ found-near zero info bits c e size f =
       | inr far ↦ (let none : None ≡ Some c = ap (λ t. if t then Some word else None) (sym far.0) ∙ f in cc)
     ]
 found-near (suc more) info bits c e size f =
-    elim (or_else-some (near_from more (info ++ false ∷ []) bits) (near_from more (info ++ true ∷ []) bits) c f) [
+    elim (of_two-some (near_from more (info ++ false ∷ []) bits) (near_from more (info ++ true ∷ []) bits) c f) [
       | inl a ↦ found-near more (info ++ false ∷ []) bits c (length-more info false more e) size a
       | inr b ↦ found-near more (info ++ true ∷ []) bits c (length-more info true more e) size b
     ]
@@ -64,7 +67,7 @@ none-near zero info bits near e size f is begins =
       | inr far ↦ (let g = far.1 in omega (arith, g, near_close))
     ]
 none-near (suc more) info bits near e size f is begins =
-    let both = or_else-none (near_from more (info ++ false ∷ []) bits) (near_from more (info ++ true ∷ []) bits) f in
+    let both = of_two-none (near_from more (info ++ false ∷ []) bits) (near_from more (info ++ true ∷ []) bits) f in
     let long = is.size in
     let inside : length info < length near = omega (arith, long, size, e) in
     elim (cases_Bool (get_or near (length info) false)) [

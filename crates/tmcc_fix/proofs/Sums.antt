@@ -1,38 +1,27 @@
 -- Sums over lists and over ranges.
-use Rattle.std.proofs.Common.{◌≡◌, ℕ, zero, suc, ◌+◌, ◌*◌, ◌%◌, ◌<◌, ◌≤◌, refl, ap, Bool, true, arith, inl, inr, sym, ◌∙◌, List, [], ◌∷◌, ◌++◌, length, take, get_or}
-use Rattle.std.specs.Prelude.{◌==◌, ◌&&◌, nat_lt, if◌then◌else◌}
+use Rattle.std.proofs.Common.{◌≡◌, ℕ, zero, suc, ◌+◌, ◌*◌, ◌%◌, ◌<◌, ◌≤◌, refl, ap, Bool, true, arith, inl, inr, sym, List, [], ◌∷◌}
+use Rattle.std.specs.Prelude.{sum_by, ◌==◌, ◌&&◌, nat_lt, if◌then◌else◌}
 use Rattle.std.proofs.Math.Nat.{mul-le-mul_right}
 use Rattle.std.proofs.lemmas.Bool.{and_parts, ltb-true}
-use Rattle.std.proofs.lemmas.List.{take_more}
+use Rattle.std.proofs.lemmas.List.Sums.{sum_by-cons}
 use Rattle.std.proofs.lemmas.Bool.Decides.{eqb_tells}
-use Rattle.tmcc_fix.specs.Checks.{total}
 
 -- ---- sums over lists
 
-pub total-append : (f : ℕ → ℕ) (xs ys : List ℕ) → total f (xs ++ ys) ≡ total f xs + total f ys
-unfolding total
-total-append f [] ys = omega arith
-total-append f (x ∷ xs) ys = let e = total-append f xs ys in omega (arith, e)
+pub sums-same : (f g : ℕ → ℕ) (xs : List ℕ) → ((x : ℕ) → f x ≡ g x) → sum_by f xs ≡ sum_by g xs
+sums-same f g [] e = refl
+sums-same f g (x ∷ xs) e = rw (sum_by-cons f x xs, sum_by-cons g x xs) (let here = e x in let rest = sums-same f g xs e in omega (arith, here, rest))
 
-pub total-more : (f : ℕ → ℕ) (xs : List ℕ) (i : ℕ) → i < length xs → total f (take (i + 1) xs) ≡ total f (take i xs) + f (get_or xs i 0)
-unfolding total
-total-more f xs i h = ap (total f) (take_more xs i 0 h) ∙ total-append f (take i xs) (get_or xs i 0 ∷ []) ∙ omega arith
-
-pub total-same : (f g : ℕ → ℕ) (xs : List ℕ) → ((x : ℕ) → f x ≡ g x) → total f xs ≡ total g xs
-unfolding total
-total-same f g [] e = refl
-total-same f g (x ∷ xs) e = let here = e x in let rest = total-same f g xs e in omega (arith, here, rest)
-
-pub total-zero : (f : ℕ → ℕ) (xs : List ℕ) → ((x : ℕ) → f x ≡ 0) → total f xs ≡ 0
-unfolding total
-total-zero f [] e = refl
-total-zero f (x ∷ xs) e = let here = e x in let rest = total-zero f xs e in omega (arith, here, rest)
+pub sums-zero : (f : ℕ → ℕ) (xs : List ℕ) → ((x : ℕ) → f x ≡ 0) → sum_by f xs ≡ 0
+sums-zero f [] e = refl
+sums-zero f (x ∷ xs) e = rw (sum_by-cons f x xs) (let here = e x in let rest = sums-zero f xs e in omega (arith, here, rest))
 
 -- a sum of sums modulo 2
-pub total-parity : (f g : ℕ → ℕ) (xs : List ℕ) → total (λ x. (f x + g x) % 2) xs % 2 ≡ (total f xs + total g xs) % 2
-unfolding total
-total-parity f g [] = refl
-total-parity f g (x ∷ xs) = let rest = total-parity f g xs in omega (arith, rest)
+pub sums-parity : (f g : ℕ → ℕ) (xs : List ℕ) → sum_by (λ x. (f x + g x) % 2) xs % 2 ≡ (sum_by f xs + sum_by g xs) % 2
+sums-parity f g [] = refl
+sums-parity f g (x ∷ xs) =
+    let rest = sums-parity f g xs in
+    rw (sum_by-cons (λ y. (f y + g y) % 2) x xs, sum_by-cons f x xs, sum_by-cons g x xs) (omega (arith, rest))
 
 -- ---- how often a number stands in a list
 
@@ -49,14 +38,15 @@ unfoldable pub nonzero : List ℕ → List ℕ
 nonzero [] = []
 nonzero (x ∷ xs) = if x == 0 then nonzero xs else x ∷ nonzero xs
 
-pub split-zero : (f : ℕ → ℕ) (xs : List ℕ) → total f xs ≡ count 0 xs * f 0 + total f (nonzero xs)
-unfolding total count nonzero
+pub split-zero : (f : ℕ → ℕ) (xs : List ℕ) → sum_by f xs ≡ count 0 xs * f 0 + sum_by f (nonzero xs)
+unfolding count nonzero
 split-zero f [] = omega arith
 split-zero f (x ∷ xs) =
     let rest = split-zero f xs in
+    let more = sum_by-cons f x xs in
     elim (eqb_tells x 0) [
-      | inl same ↦ rw (same.0, same.1) (omega (arith, rest))
-      | inr other ↦ rw other.0 (omega (arith, rest))
+      | inl same ↦ (let first : f x ≡ f 0 = ap f same.1 in rw same.0 (omega (arith, rest, more, first)))
+      | inr other ↦ (let kept = sum_by-cons f x (nonzero xs) in rw other.0 (omega (arith, rest, more, kept)))
     ]
 
 -- ---- sums over ranges
@@ -120,19 +110,20 @@ at_most_single f x (suc n) h =
     ]
 
 -- a sum over numbers that stand in a list at most once each is at most the sum over their range
-total-counted : (f : ℕ → ℕ) (xs : List ℕ) (n : ℕ) → all_below n xs ≡ true → total f xs ≡ range_total (λ q. count q xs * f q) n
-unfolding total count all_below
-total-counted f [] n e = sym (range-zero (λ q. 0 * f q) n (λ i h. omega arith))
-total-counted f (x ∷ xs) n e =
+sums-counted : (f : ℕ → ℕ) (xs : List ℕ) (n : ℕ) → all_below n xs ≡ true → sum_by f xs ≡ range_total (λ q. count q xs * f q) n
+unfolding count all_below
+sums-counted f [] n e = sym (range-zero (λ q. 0 * f q) n (λ i h. omega arith))
+sums-counted f (x ∷ xs) n e =
     let parts = and_parts (nat_lt x n) (all_below n xs) e in
     let first = at_most_single f x n (ltb-true x n parts.0) in
-    let rest = total-counted f xs n parts.1 in
+    let rest = sums-counted f xs n parts.1 in
     let sum = range-sum (λ q. (if x == q then 1 else 0) * f q) (λ q. count q xs * f q) n in
     let same = range-same (λ q. ((if x == q then 1 else 0) + count q xs) * f q) (λ q. (if x == q then 1 else 0) * f q + count q xs * f q) n (λ i h. omega arith) in
-    omega (arith, first, rest, sum, same)
+    let more = sum_by-cons f x xs in
+    omega (arith, first, rest, sum, same, more)
 
-pub total-le : (f : ℕ → ℕ) (xs : List ℕ) (n : ℕ) → all_below n xs ≡ true → ((q : ℕ) → q < n → count q xs ≤ 1) → total f xs ≤ range_total f n
-total-le f xs n e once =
-    let t = total-counted f xs n e in
+pub sums-le : (f : ℕ → ℕ) (xs : List ℕ) (n : ℕ) → all_below n xs ≡ true → ((q : ℕ) → q < n → count q xs ≤ 1) → sum_by f xs ≤ range_total f n
+sums-le f xs n e once =
+    let t = sums-counted f xs n e in
     let le = range-le (λ q. count q xs * f q) f n (λ q h. (let m : count q xs * f q ≤ 1 * f q = mul-le-mul_right (f q) (once q h) in omega (arith, m))) in
     omega (arith, t, le)

@@ -1,12 +1,7 @@
 -- The checks of the cyclic code of length 273, of which the words from B20 on are the first 184 places.
-use Rattle.std.specs.Prelude.{ℕ, ◌+◌, ◌-◌, ◌%◌, Bool, false, List, [], ◌∷◌, slice_index_or, slice_index}
+use Rattle.std.specs.Prelude.{ℕ, ◌+◌, ◌-◌, ◌%◌, Bool, false, List, sum_by, slice_index_or, slice_index}
 use Rattle.std.specs.Int.{from_bool}
 use Rattle.tmcc_fix.specs.declared.checks.TheConstants.{RESIDUES}
-
--- the sum of a function's values at the numbers of a list
-unfoldable pub total : (ℕ → ℕ) → List ℕ → ℕ
-total f [] = 0
-total f (x ∷ xs) = f x + total f xs
 
 -- the bit of a place, 0 behind the last
 abbrev pub bit : List Bool → ℕ → ℕ
@@ -18,8 +13,8 @@ place_of shift residue = (shift + 273 - residue) % 273
 
 -- how many ones a check covers, modulo 2
 abbrev pub parity_at : List Bool → ℕ → ℕ
-parity_at bits shift = total (λ residue. bit bits (place_of shift residue)) RESIDUES % 2
+parity_at bits shift = sum_by (λ residue. bit bits (place_of shift residue)) RESIDUES % 2
 
 -- how many of the checks that cover a place are odd
 abbrev pub odd_at : List ℕ → ℕ → ℕ
-odd_at parities place = total (λ residue. slice_index parities ((place + residue) % 273)) RESIDUES
+odd_at parities place = sum_by (λ residue. slice_index parities ((place + residue) % 273)) RESIDUES
