@@ -9,7 +9,7 @@ pub mod FrameSymbols
 pub mod Gathered
 pub mod PartFrames
 pub mod PlainFrames
-pub mod PlanEpochs
+pub mod NextEpoch
 pub mod PlanWords
 pub mod Ranges
 pub mod RefusalKinds

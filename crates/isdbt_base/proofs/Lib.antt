@@ -5,3 +5,5 @@ pub mod Products
 pub mod RangeLaws
 pub mod Rows
 pub mod Finding
+pub mod PlanEpochs
+pub mod EpochLaws

@@ -3,6 +3,7 @@ pub mod LayerParameters
 pub mod Parameters
 pub mod Plans
 pub mod Epochs
+pub mod Switching
 pub mod Numbers
 pub mod Frames
 pub mod Refusals

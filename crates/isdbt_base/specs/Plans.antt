@@ -1,5 +1,5 @@
 -- Plans and epochs. An epoch is the run of frames from frame 0 or a switch up to the next switch.
-use Rattle.std.specs.Prelude.{◌≡◌, ℕ, ◌-◌, ◌<◌, ◌≤◌, if◌then◌else◌, nat_le, Option, Some, None, is_some, List, [], ◌∷◌, length}
+use Rattle.std.specs.Prelude.{◌≡◌, ℕ, ◌-◌, ◌<◌, ◌≤◌, if◌then◌else◌, nat_le, max, Option, Some, None, is_some, List, [], ◌∷◌, length}
 use Rattle.isdbt_base.specs.declared.kinds.Mode.{Mode}
 use Rattle.isdbt_base.specs.declared.kinds.Guard.{Guard}
 use Rattle.isdbt_base.specs.declared.epoch.At.{At}
@@ -50,6 +50,14 @@ abbrev pub next_setting : List Switch → Option Parameters
 next_setting [] = None
 next_setting (w ∷ ws) = Some w.after.setting
 
+abbrev pub next_mode : List Switch → Option Mode
+next_mode [] = None
+next_mode (w ∷ ws) = Some w.after.mode
+
+abbrev pub next_guard : List Switch → Option Guard
+next_guard [] = None
+next_guard (w ∷ ws) = Some w.after.guard
+
 -- what holds at frame f of the epoch that sends this from its start on up to the first of the switches
 abbrev pub in_epoch : Transmission → ℕ → List Switch → ℕ → At
 in_epoch t start ws f = record {
@@ -59,6 +67,8 @@ in_epoch t start ws f = record {
   start = start;
   end = next_frame ws;
   next = next_setting ws;
+  next_mode = next_mode ws;
+  next_guard = next_guard ws;
   countdown = countdown_to (next_frame ws) f;
 }
 
@@ -69,3 +79,16 @@ at_from t start (w ∷ ws) f = if nat_le w.frame f then at_from w.after w.frame 
 
 abbrev pub at_frame : Schedule → ℕ → At
 at_frame p f = at_from p.first 0 p.switches f
+
+-- each switch keeps the mode and the guard interval of what stands before it
+abbrev pub KeepsMode : Transmission → List Switch → Type 0
+KeepsMode t [] = Unit {0}
+KeepsMode t (w ∷ ws) = (w.after.mode ≡ t.mode) × (w.after.guard ≡ t.guard) × KeepsMode w.after ws
+
+-- the greatest of a number over what this and the switches send
+abbrev pub greatest_from : (Transmission → ℕ) → ℕ → List Switch → ℕ
+greatest_from n most [] = most
+greatest_from n most (w ∷ ws) = greatest_from n (max most (n w.after)) ws
+
+abbrev pub greatest_of : (Transmission → ℕ) → Schedule → ℕ
+greatest_of n p = greatest_from n (n p.first) p.switches

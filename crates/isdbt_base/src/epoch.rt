@@ -19,6 +19,10 @@ pub struct At {
     pub end: Option<u32>,
     /// The setting from there on.
     pub next: Option<Setting>,
+    /// The mode from there on, None exactly where `next` is.
+    pub next_mode: Option<Mode>,
+    /// The guard interval from there on, None exactly where `next` is.
+    pub next_guard: Option<Guard>,
     /// The frames that are left before the switch less one where at most 15 are left, and else 15.
     pub countdown: u8,
 }

@@ -26,6 +26,22 @@ impl Model for LayerSetting {
     ghost inverse = { λ p. record { segments = p.segments; modulation = p.modulation; rate = p.rate; depth = p.depth } };
 }
 
+/// All 13 segments with QPSK at rate 1/2, and no time interleaving.
+impl Default for LayerSetting {
+    ghost use Rattle.std.specs.Prelude.{◌≡◌};
+
+    fn default() -> LayerSetting
+        ensures { result.segments ≡ 13 }
+    {
+        LayerSetting {
+            segments: 13,
+            modulation: Modulation::Qpsk,
+            rate: Rate::R12,
+            depth: DepthCode::D0,
+        }
+    }
+}
+
 impl LayerSetting {
     ghost use Rattle.std.specs.Prelude.{◌≡◌, ◌<◌, ◌≤◌, ◌⊎◌, MatchOption};
     ghost use Rattle.isdbt_base.specs.LayerParameters.{HasSegments};

@@ -7,6 +7,7 @@
 
 mod buffer;
 mod epoch;
+mod fault;
 mod head;
 mod kinds;
 mod layer_numbers;
@@ -15,9 +16,11 @@ mod memory;
 mod numbers;
 mod plan;
 mod setting;
+mod switch;
 
 pub use buffer::{put, zeros};
 pub use epoch::At;
+pub use fault::PlanFault;
 pub use head::{HeadFault, guard_byte, guard_in, head_of, mode_byte, mode_in, read_head};
 pub use kinds::{DepthCode, Guard, Layer, Mode, Modulation, Rate};
 pub use layer_numbers::{cells_of, packets_of};

@@ -2,7 +2,7 @@
 
 ghost use Rattle.std.specs.Prelude.{◌≡◌, true};
 
-use crate::kinds::{Layer, Mode};
+use crate::kinds::{Guard, Layer, Mode};
 use crate::layer_numbers::{cells_of, delay_of, packets_of, segments_of};
 use crate::layer_setting::LayerSetting;
 use std::marker::Model;
@@ -48,11 +48,24 @@ impl Model for Setting {
     ghost inverse = { λ p. record { partial = p.partial; a = p.a; b = p.b; c = p.c } };
 }
 
+/// One layer of 13 segments with the least of all bit rates.
+impl Default for Setting {
+    fn default() -> Setting {
+        Setting {
+            partial: false,
+            a: LayerSetting::default(),
+            b: None,
+            c: None,
+        }
+    }
+}
+
 impl Setting {
-    ghost use Rattle.std.specs.Prelude.{◌≡◌, ◌≤◌, true, Some, None, IsSome, MatchResult};
+    ghost use Rattle.std.specs.Prelude.{◌≡◌, ◌<◌, ◌≤◌, true, Some, None, IsSome, MatchResult};
     ghost use Rattle.isdbt_base.specs.Parameters.{Parameters, IsAccepted, layer_of, number_of, sum_before};
     ghost use Rattle.isdbt_base.specs.Refusals.{refusal_of};
-    ghost use Rattle.isdbt_base.specs.Numbers.{total_packets, greatest_delay, first_segment, packets_per_frame, layer_delay, layer_cells};
+    ghost use Rattle.isdbt_base.specs.Switching.{other_layer};
+    ghost use Rattle.isdbt_base.specs.Numbers.{slots_per_frame, total_packets, greatest_delay, first_segment, packets_per_frame, layer_delay, layer_cells};
 
     /// The setting of these layers, or the first cause to refuse it, in the order of [`SettingFault`].
     pub fn new(
@@ -96,6 +109,19 @@ impl Setting {
         }
         are_equal(&self.layer(Layer::B), &other.layer(Layer::B))
             && are_equal(&self.layer(Layer::C), &other.layer(Layer::C))
+    }
+
+    /// The first layer that one of two settings uses and the other doesn't.
+    pub fn other_layer(&self, other: &Setting) -> Option<Layer>
+        ensures { result ≡ other_layer self.now other.now }
+    {
+        if self.b.is_some() != other.b.is_some() {
+            return Some(Layer::B);
+        }
+        if self.c.is_some() != other.c.is_some() {
+            return Some(Layer::C);
+        }
+        None
     }
 
     /// The partial reception flag.
@@ -178,6 +204,14 @@ impl Setting {
         ensures { result ≡ total_packets mode self.now }
     {
         self.a.packets(mode) + packets_of(&self.b, mode) + packets_of(&self.c, mode)
+    }
+
+    /// The packets of all layers leave at least one slot of a frame free.
+    pub fn total_law(&self, mode: Mode, guard: Guard)
+        ensures { total_packets mode self.now < slots_per_frame mode guard }
+    {
+        self.acceptance_law();
+        let (_mode, _guard) = (mode, guard);
     }
 
     /// The greatest delay of the used layers.

@@ -1,23 +1,27 @@
 -- The epoch of a frame of a plan: its start, its mode, its setting and its countdown.
-use Rattle.std.proofs.Common.{◌≡◌, ℕ, ◌-◌, ◌≤◌, ◌<◌, refl, arith, inl, inr, Some, None, Option, List, [], ◌∷◌}
+use Rattle.std.proofs.Common.{◌≡◌, ℕ, ◌-◌, ◌≤◌, ◌<◌, Bool, true, false, refl, sym, arith, inl, inr, Some, None, Option, List, [], ◌∷◌, ◌++◌, length}
+use Rattle.std.specs.Prelude.{if◌then◌else◌, not, is_some}
 use Rattle.std.proofs.lemmas.Bool.{le-leb, lt-leb, cases_lt}
 use Rattle.std.proofs.lemmas.Bool.Decides.{leb_tells}
+use Rattle.std.proofs.lemmas.List.{length-append}
 use Rattle.isdbt_base.specs.declared.epoch.At.{At}
+use Rattle.isdbt_base.specs.declared.kinds.Layer.TheVariants.{B, C}
 use Rattle.isdbt_base.specs.Parameters.{Parameters, IsAccepted}
-use Rattle.isdbt_base.specs.Plans.{Transmission, Schedule, Switch, at_frame, at_from, in_epoch, IsPlan, RisesFrom, countdown_to}
-use Rattle.tmcc_word.specs.Fields.{IsAcceptedIfAny}
+use Rattle.isdbt_base.specs.Plans.{Transmission, Schedule, Switch, at_frame, at_from, in_epoch, IsPlan, RisesFrom, SameLayers, countdown_to}
+use Rattle.isdbt_base.specs.Epochs.{last_start_from, last_start}
+use Rattle.isdbt_base.specs.Switching.{alike, other_layer, with_switch}
 
 -- the first switch is behind a frame, or still to come
-at_from-after : (t : Transmission) (start : ℕ) (w : Switch) (ws : List Switch) (f : ℕ) → w.frame ≤ f → at_from t start (w ∷ ws) f ≡ at_from w.after w.frame ws f
+pub at_from-after : (t : Transmission) (start : ℕ) (w : Switch) (ws : List Switch) (f : ℕ) → w.frame ≤ f → at_from t start (w ∷ ws) f ≡ at_from w.after w.frame ws f
 at_from-after t start w ws f h = rw (le-leb w.frame f h) refl
 
-at_from-before : (t : Transmission) (start : ℕ) (w : Switch) (ws : List Switch) (f : ℕ) → f < w.frame → at_from t start (w ∷ ws) f ≡ in_epoch t start (w ∷ ws) f
+pub at_from-before : (t : Transmission) (start : ℕ) (w : Switch) (ws : List Switch) (f : ℕ) → f < w.frame → at_from t start (w ∷ ws) f ≡ in_epoch t start (w ∷ ws) f
 at_from-before t start w ws f h = rw (lt-leb w.frame f h) refl
 
 -- ---- starts
 
 -- the epoch of a frame begins at the start or later
-start-ge : (first : Parameters) (t : Transmission) (start : ℕ) (ws : List Switch) (f : ℕ) → RisesFrom start first ws → start ≤ (at_from t start ws f).start
+pub start-ge : (first : Parameters) (t : Transmission) (start : ℕ) (ws : List Switch) (f : ℕ) → RisesFrom start first ws → start ≤ (at_from t start ws f).start
 start-ge first t start [] f r = omega arith
 start-ge first t start (w ∷ ws) f r =
     elim (cases_lt f w.frame) [
@@ -95,15 +99,30 @@ accepted_from first t start last (w ∷ ws) f h r =
 pub setting_accepted : (p : Schedule) (f : ℕ) → IsPlan p → IsAccepted (at_frame p f).setting
 setting_accepted p f h = accepted_from p.first.setting p.first 0 0 p.switches f h.first h.rising
 
--- the setting of the next epoch, if there is one, is accepted
-next_from : (first : Parameters) (t : Transmission) (start last : ℕ) (ws : List Switch) (f : ℕ) → RisesFrom last first ws → IsAcceptedIfAny (at_from t start ws f).next
-next_from first t start last [] f r = tt
-next_from first t start last (w ∷ ws) f r =
-    elim (cases_lt f w.frame) [
-      | inl before ↦ rw (at_from-before t start w ws f before) r.2
-      | inr after ↦ rw (at_from-after t start w ws f after) (next_from first w.after w.frame w.frame ws f r.4)
-    ]
+-- ---- one more switch
 
--- so is the setting of the epoch after that of the frame, if there is one
-pub next_accepted : (p : Schedule) (f : ℕ) → IsPlan p → IsAcceptedIfAny (at_frame p f).next
-next_accepted p f h = next_from p.first.setting p.first 0 0 p.switches f h.rising
+-- switches that rise go on rising with a later one
+pub rises-append : (last : ℕ) (first : Parameters) (ws : List Switch) (w : Switch) → RisesFrom last first ws → last_start_from last ws < w.frame → w.frame ≤ 16777215 → IsAccepted w.after.setting → SameLayers first w.after.setting → RisesFrom last first (ws ++ w ∷ [])
+rises-append last first [] w r above within accepted same = (above, within, accepted, same, tt)
+rises-append last first (v ∷ ws) w r above within accepted same = (r.0, r.1, r.2, r.3, rises-append v.frame first ws w r.4 above within accepted same)
+
+pub plan-append : (p : Schedule) (w : Switch) → IsPlan p → length p.switches < 7 → last_start p < w.frame → w.frame ≤ 16777215 → IsAccepted w.after.setting → SameLayers p.first.setting w.after.setting → IsPlan (with_switch p w)
+plan-append p w h few above within accepted same = record {
+  first = h.first;
+  few = (let n = length-append p.switches (w ∷ []) in omega (arith, n, few));
+  rising = rises-append 0 p.first.setting p.switches w h.rising above within accepted same;
+}
+
+alike-same : (b c : Bool) → alike b c ≡ true → b ≡ c
+alike-same true c h = sym h
+alike-same false true h = absurd (cc)
+alike-same false false h = refl
+
+layers_from : (s u : Parameters) (b c : Bool) → alike (is_some s.b) (is_some u.b) ≡ b → alike (is_some s.c) (is_some u.c) ≡ c → (if not b then Some B else if not c then Some C else None) ≡ None → SameLayers s u
+layers_from s u true true e f h = (alike-same (is_some s.b) (is_some u.b) e, alike-same (is_some s.c) (is_some u.c) f)
+layers_from s u true false e f h = absurd (cc)
+layers_from s u false c e f h = absurd (cc)
+
+-- settings of which no layer differs use the same
+pub same_layers : (s u : Parameters) → other_layer s u ≡ None → SameLayers s u
+same_layers s u h = layers_from s u (alike (is_some s.b) (is_some u.b)) (alike (is_some s.c) (is_some u.c)) refl refl h
