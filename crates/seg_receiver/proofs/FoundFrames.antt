@@ -22,7 +22,7 @@ use Rattle.coder_core.specs.InputFrames.{bears_head, first_head, slots_at, packe
 use Rattle.coder_core.specs.SentCells.{frame_cells}
 use Rattle.coder_core.specs.CodeRefusals.{frames_from, coded_frame}
 use Rattle.isdbt_base.proofs.Finding.{find-first_of}
-use Rattle.coder_core.proofs.PlanEpochs.{setting_accepted, at_countdown-le}
+use Rattle.isdbt_base.proofs.PlanEpochs.{setting_accepted, at_countdown-le}
 use Rattle.coder_core.proofs.StablePlan.{frame_cells-same}
 use Rattle.remux_core.specs.Multiplex.{broadcast, frame_tag}
 use Rattle.seg_receiver.specs.CellStream.{first_version}

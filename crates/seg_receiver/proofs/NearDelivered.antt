@@ -18,7 +18,7 @@ use Rattle.tmcc_word.specs.Reading.{read}
 use Rattle.layer_chain.specs.OuterWords.{outer_word, unit_answer, given_out}
 use Rattle.layer_chain.proofs.NearAnswers.{near_answer}
 use Rattle.coder_core.specs.SentCells.{plan_word, plan_info}
-use Rattle.coder_core.proofs.PlanEpochs.{epoch_start-le, same_epoch}
+use Rattle.isdbt_base.proofs.PlanEpochs.{epoch_start-le, same_epoch}
 use Rattle.coder_core.proofs.PlanWords.{read-plan_word}
 use Rattle.remux_core.specs.Multiplex.{broadcast, frame_tag}
 use Rattle.seg_receiver.specs.CellStream.{View}
