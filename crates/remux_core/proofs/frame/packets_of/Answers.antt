@@ -1,7 +1,7 @@
 use Rattle.std.proofs.Common.{sym, subst}
 use Rattle.isdbt_base.specs.declared.kinds.Layer.TheVariants.{A, B, C}
 use Rattle.remux_core.specs.Parts.{IsWhole}
-use Rattle.remux_core.proofs.remultiplex.packets_of.Goals as goal
+use Rattle.remux_core.proofs.frame.packets_of.Goals as goal
 
 pub returns-clause-whole : goal.returns-clause-whole
 returns-clause-whole c = record {
