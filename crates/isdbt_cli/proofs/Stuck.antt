@@ -5,7 +5,7 @@ use Rattle.std.specs.declared.option.Option.{Option}
 use Rattle.std.specs.declared.result.Result.{Result}
 use Rattle.std.proofs.lemmas.List.{append-nil}
 use Rattle.isdbt_cli.specs.CommandLines.{Word, Command, Spells, CanGoOn, IsFaultAt}
-use Rattle.isdbt_cli.specs.Parsing.{Unread, Reads, BeginsWith, IsStuck}
+use Rattle.isdbt_cli.specs.Parsing.{Unread, Reads, BeginsWith, IsStuck, StartsWith}
 
 -- ---- a rule of one word
 
@@ -111,6 +111,26 @@ stuck_end M read u v p r at some whole only = record {
   goes_on = ([], subst M (sym (append-nil read)) whole);
   stuck = λ tail m heads. not_none v.words some (ap (take 1) (sym (only tail m)) ∙ heads);
 }
+
+-- the next word can't follow
+pub stuck_here : (M : List Word → Type 0) (read : List Word) (u v : Unread) (p : ℕ) → Reads read u v → p ≡ v.place → (tail : List Word) × M (read ++ tail) → ((ws : List Word) → M (read ++ ws) → take 1 ws ≡ take 1 v.words → ⊥) → IsStuck M u p
+stuck_here M read u v p r at goes never = record { front = read; rest = v.words; split = r.split; place_is = at ∙ r.place; goes_on = goes; stuck = never }
+
+-- where a rule of one word gets stuck, it is at the next word, which is no text
+pub misses : {X : Type 0} (Valid : X → Type 0) (text : X → Word) (u : Unread) (place : ℕ) → IsStuck (BeginsWith Valid (λ y. text y ∷ [])) u place → (place ≡ u.place) × ((x : X) → Valid x → StartsWith (text x) u.words → ⊥)
+misses {X = X} Valid text u place s = go s.front s.rest s.split s.place_is s.goes_on s.stuck
+  where
+    go : (front rest : List Word) → u.words ≡ front ++ rest → place ≡ u.place + length front → (tail : List Word) × BeginsWith Valid (λ y. text y ∷ []) (front ++ tail) → ((tail : List Word) → BeginsWith Valid (λ y. text y ∷ []) (front ++ tail) → take 1 tail ≡ take 1 rest → ⊥)
+        → (place ≡ u.place) × ((x : X) → Valid x → StartsWith (text x) u.words → ⊥)
+    go [] rest split at goes stuck = (omega (arith, at), λ x valid heads. stuck (text x ∷ []) (x, valid, [], refl) (sym heads ∙ ap (take 1) split))
+    go (w ∷ front) rest split at goes stuck = absurd (stuck rest (goes.1.0, goes.1.1, front ++ rest, ap (λ (h : Word). h ∷ (front ++ rest)) (same_head goes.1.3)) refl)
+
+-- a rule of one word gets stuck, and what follows is a word of it wherever it begins with the next word
+pub stuck_word : {X : Type 0} (Valid : X → Type 0) (text : X → Word) (M : List Word → Type 0) (read : List Word) (u v : Unread) (p : ℕ) → Reads read u v → IsStuck (BeginsWith Valid (λ y. text y ∷ [])) v p → (tail : List Word) × M (read ++ tail)
+    → ((ws : List Word) → M (read ++ ws) → take 1 ws ≡ take 1 v.words → BeginsWith Valid (λ y. text y ∷ []) ws) → IsStuck M u p
+stuck_word Valid text M read u v p r s goes down =
+    let m = misses Valid text v p s in
+    stuck_here M read u v p r m.0 goes (λ ws f heads. (let b = down ws f heads in m.1 b.0 b.1 (sym heads ∙ ap (take 1) b.3)))
 
 -- ---- the place of a fault
 
