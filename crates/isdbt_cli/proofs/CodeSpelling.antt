@@ -1,5 +1,5 @@
 -- The words of the command code: what may follow the words that were read.
-use Rattle.std.proofs.Common.{◌≡◌, ℕ, Bool, true, List, [], ◌∷◌, ◌++◌, take, refl, sym, subst}
+use Rattle.std.proofs.Common.{◌≡◌, ℕ, true, List, [], ◌∷◌, ◌++◌, take, refl, sym, subst}
 use Rattle.std.specs.Prelude.{codes}
 use Rattle.isdbt_base.specs.Plans.{Schedule}
 use Rattle.isdbt_cli.specs.CommandLines.{Word, IsName, code, SpellCommand, Spells}

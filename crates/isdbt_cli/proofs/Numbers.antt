@@ -114,11 +114,13 @@ frame_spelled text x r n head no_zero no_plus parses is =
     let read = OkIff-at_ok r (AllDigits 10 text × (0 < length text) × (digits_value 10 text < 2 ^ 32)) (digits_value 10 text) n plain is in
     let small = read.0.2 in
     let same = decimal-digits_value (numerals_by_value (AllDigits 10) tells_digits) text read.0.0 read.0.1 (λ e. absurd (no_zero (sym first ∙ e))) (omega (arith, small)) in
-    let spelled : text ≡ decimal n = sym same ∙ ap decimal (sym read.1) in
-    (elim (cases_lt 0 n) [
-      | inl some ↦ some
-      | inr none ↦ absurd (no_zero (sym first ∙ ap (λ (t : List ℕ). get_or t 0 0) (spelled ∙ ap decimal (zero_is n none) ∙ decimal_digit 0 (omega arith))))
-    ], spelled)
+    let spelled : text ≡ decimal n = sym same ∙ ap decimal (sym read.1) in (
+      elim (cases_lt 0 n) [
+        | inl some ↦ some
+        | inr none ↦ absurd (no_zero (sym first ∙ ap (λ (t : List ℕ). get_or t 0 0) (spelled ∙ ap decimal (zero_is n none) ∙ decimal_digit 0 (omega arith))))
+      ],
+      spelled,
+    )
   where
     zero_is : (k : ℕ) → k ≤ 0 → k ≡ 0
     zero_is k h = omega (arith, h)

@@ -114,17 +114,21 @@ pub record PlanLine (steady : Bool) (words : List Word) : Type 0 where
 
 pub line_follows : (steady : Bool) (words : List Word) → PlanLine steady words → Follows (planned steady) words
 line_follows false words l =
-    let n = l.inputs in
-    (remux l.p n.a n.b n.c, record {
-      command = record { plan = l.spells.plan; a_name = n.a_name; b_name = n.b_name; c_name = n.c_name; b_used = n.b_used; c_used = n.c_used };
-      spelled = subst (λ (ws : List Word). SpellCommand (remux l.p n.a n.b n.c) (codes "remux" ∷ ws)) (sym (l.words_are ∙ ap (λ (ws : List Word). l.read ++ ws) n.words_are)) (spell_remux l.p n.a n.b n.c l.read l.spells.spelled);
-    })
+    let n = l.inputs in (
+      remux l.p n.a n.b n.c,
+      record {
+        command = record { plan = l.spells.plan; a_name = n.a_name; b_name = n.b_name; c_name = n.c_name; b_used = n.b_used; c_used = n.c_used };
+        spelled = subst (λ (ws : List Word). SpellCommand (remux l.p n.a n.b n.c) (codes "remux" ∷ ws)) (sym (l.words_are ∙ ap (λ (ws : List Word). l.read ++ ws) n.words_are)) (spell_remux l.p n.a n.b n.c l.read l.spells.spelled);
+      },
+    )
 line_follows true words l =
-    let n = l.inputs in
-    (code l.p n.0, record {
-      command = record { plan = l.spells.plan; keeps = l.spells.keeps refl; input_name = n.1 };
-      spelled = subst (λ (ws : List Word). SpellCommand (code l.p n.0) (codes "code" ∷ ws)) (sym (l.words_are ∙ ap (λ (ws : List Word). l.read ++ ws) n.2)) (spell_code l.p n.0 l.read l.spells.spelled);
-    })
+    let n = l.inputs in (
+      code l.p n.0,
+      record {
+        command = record { plan = l.spells.plan; keeps = l.spells.keeps refl; input_name = n.1 };
+        spelled = subst (λ (ws : List Word). SpellCommand (code l.p n.0) (codes "code" ∷ ws)) (sym (l.words_are ∙ ap (λ (ws : List Word). l.read ++ ws) n.2)) (spell_code l.p n.0 l.read l.spells.spelled);
+      },
+    )
 
 pub follows_line : (steady : Bool) (words : List Word) → Follows (planned steady) words → PlanLine steady words
 follows_line false words (code p name, s) = absurd (remux_or_code (same_head (code_spelled p name (codes "remux" ∷ words) s.spelled).2))
@@ -166,6 +170,10 @@ pub record Behind (steady : Bool) (p q : Schedule) (rest words : List Word) : Ty
   pub inputs : Inputs steady p.first.setting rest
   pub words_are : words ≡ spelled ++ rest
 
+keeps_on : (p q : Schedule) (more : List Switch) → q.first ≡ p.first → q.switches ≡ p.switches ++ more → KeepsMode q.first q.switches → KeepsMode (last_sent p) more
+keeps_on p q more first is keeps = keeps_behind p.first p.switches more (subst (λ (l : List Switch). KeepsMode p.first l) is (subst (λ (t : Transmission). KeepsMode t q.switches) first keeps))
+
+-- a line that begins with the words of a plan goes on from it
 pub line_behind : (steady : Bool) (p : Schedule) (read words : List Word) → SpellsPlan steady p read → (l : PlanLine steady (read ++ words)) → Behind steady p l.p l.rest words
 line_behind steady p read words s l =
     let b = s.spelled.behind in
@@ -183,7 +191,7 @@ line_behind steady p read words s l =
       plan = l.spells.plan;
       first = first;
       switches = k.is;
-      keeps = λ e. keeps_behind p.first p.switches k.more (subst (λ (l : List Switch). KeepsMode p.first l) k.is (subst (λ (t : Transmission). KeepsMode t l.p.switches) first (l.spells.keeps e)));
+      keeps = λ e. keeps_on p l.p k.more first k.is (l.spells.keeps e);
       spells = k.spells;
       inputs = inputs;
       words_are = k.words;
@@ -280,15 +288,17 @@ stuck_switch steady p u v place r room s =
   where
     up : (c : Change) → IsChange steady p.first.setting (last_sent p).mode (last_sent p).guard c → (more : List Word) × Follows (planned steady) ((r.read ++ frame_word s.frame ∷ []) ++ (change_words c ++ more))
     up c valid =
-        let n = some_inputs steady p.first.setting in
-        (n.0, line_follows steady _ (record {
-          p = with_switch p (record { frame = s.frame; after = c.after });
-          read = r.read ++ frame_word s.frame ∷ change_words c;
-          spells = spells_more steady p r.read s.frame c r.spells room s.later valid;
-          rest = n.0;
-          inputs = n.1;
-          words_are = sym (append_assoc (r.read ++ frame_word s.frame ∷ []) (change_words c) n.0) ∙ ap (λ (ws : List Word). ws ++ n.0) (append_assoc r.read (frame_word s.frame ∷ []) (change_words c));
-        }))
+        let n = some_inputs steady p.first.setting in (
+          n.0,
+          line_follows steady _ (record {
+            p = with_switch p (record { frame = s.frame; after = c.after });
+            read = r.read ++ frame_word s.frame ∷ change_words c;
+            spells = spells_more steady p r.read s.frame c r.spells room s.later valid;
+            rest = n.0;
+            inputs = n.1;
+            words_are = sym (append_assoc (r.read ++ frame_word s.frame ∷ []) (change_words c) n.0) ∙ ap (λ (ws : List Word). ws ++ n.0) (append_assoc r.read (frame_word s.frame ∷ []) (change_words c));
+          }),
+        )
 
     down : (ws : List Word) → Follows (planned steady) ((r.read ++ frame_word s.frame ∷ []) ++ ws) → Changes steady p.first.setting (last_sent p).mode (last_sent p).guard ws
     down ws f = change_behind steady p s.frame ws
@@ -308,15 +318,17 @@ opened steady p u v none ok reads = record {
 
 pub sent_follows : (steady : Bool) (t : Transmission) → IsAccepted t.setting → (more : List Word) × Follows (planned steady) ([] ++ (transmission_words t ++ more))
 sent_follows steady t ok =
-    let n = some_inputs steady t.setting in
-    (n.0, line_follows steady (transmission_words t ++ n.0) (record {
-      p = record { first = t; switches = [] };
-      read = transmission_words t;
-      spells = plain steady t ok;
-      rest = n.0;
-      inputs = n.1;
-      words_are = refl;
-    }))
+    let n = some_inputs steady t.setting in (
+      n.0,
+      line_follows steady (transmission_words t ++ n.0) (record {
+        p = record { first = t; switches = [] };
+        read = transmission_words t;
+        spells = plain steady t ok;
+        rest = n.0;
+        inputs = n.1;
+        words_are = refl;
+      }),
+    )
 
 pub follows_sent : (steady : Bool) (ws : List Word) → Follows (planned steady) ([] ++ ws) → Sent ws
 follows_sent steady ws f =

@@ -1,16 +1,16 @@
 -- The words of plans: a plan's words are of one plan, and what may follow those of a plan's front.
-use Rattle.std.proofs.Common.{◌≡◌, ◌≢◌, ℕ, ◌≤◌, ◌<◌, Bool, true, false, List, [], ◌∷◌, ◌++◌, length, take, refl, sym, ap, ◌∙◌, subst, arith, append_assoc, length-append}
+use Rattle.std.proofs.Common.{◌≡◌, ◌≢◌, ℕ, ◌≤◌, Bool, true, false, List, [], ◌∷◌, ◌++◌, length, refl, sym, ap, ◌∙◌, subst, arith, append_assoc, length-append}
 use Rattle.std.specs.Prelude.{codes, decimal, ◌==◌}
-use Rattle.std.proofs.lemmas.List.{append-nil, append_cancel_left}
+use Rattle.std.proofs.lemmas.List.{append_cancel_left}
 use Rattle.std.proofs.lemmas.Fmt.{decimal_injective}
 use Rattle.isdbt_base.specs.declared.kinds.Mode.{Mode}
 use Rattle.isdbt_base.specs.declared.kinds.Mode.TheVariants.{M1, M2, M3}
 use Rattle.isdbt_base.specs.declared.kinds.Guard.{Guard}
 use Rattle.isdbt_base.specs.Parameters.{Parameters, IsAccepted}
 use Rattle.isdbt_base.specs.Plans.{Transmission, Switch, Schedule, IsPlan, RisesFrom, KeepsMode}
-use Rattle.isdbt_base.specs.Epochs.{last_start_from, last_sent_from, last_start, last_sent}
+use Rattle.isdbt_base.specs.Epochs.{last_start_from, last_sent_from, last_start}
 use Rattle.isdbt_base.specs.Switching.{with_switch}
-use Rattle.isdbt_cli.specs.CommandLines.{Word, mode_word, guard_word, setting_word, transmission_words, frame_word, told_words, switch_words, IsIn, SpellSwitches, SpellPlan}
+use Rattle.isdbt_cli.specs.CommandLines.{Word, mode_word, guard_word, setting_word, frame_word, told_words, switch_words, IsIn, SpellSwitches}
 use Rattle.isdbt_cli.proofs.Transmissions.{same_head, same_tail, same_transmission}
 
 -- ---- first letters
@@ -77,6 +77,11 @@ pub record GoOn (t : Transmission) (ws vs : List Switch) (tail names : List Word
   pub spells : SpellSwitches (last_sent_from t ws) more spelled
   pub words : tail ≡ spelled ++ names
 
+-- two lists of three parts that are equal
+regroup : (a b xs tail c d ys names : List Word) → xs ≡ a ++ b → ys ≡ c ++ d → xs ++ tail ≡ ys ++ names → a ++ (b ++ tail) ≡ c ++ (d ++ names)
+regroup a b xs tail c d ys names s s' e =
+    sym (append_assoc a b tail) ∙ ap (λ (z : List Word). z ++ tail) (sym s) ∙ e ∙ ap (λ (z : List Word). z ++ names) s' ∙ append_assoc c d names
+
 pub go_on : (first : Parameters) (t : Transmission) (last last' : ℕ) (ws vs : List Switch) (xs ys tail names : List Word) → RisesFrom last first ws → RisesFrom last' first vs → SpellSwitches t ws xs → SpellSwitches t vs ys → begins_at names ≡ false
     → xs ++ tail ≡ ys ++ names → GoOn t ws vs tail names
 go_on first t last last' [] vs xs ys tail names r r' s s' none e = record { more = vs; is = refl; spelled = ys; spells = s'; words = ap (λ (z : List Word). z ++ tail) (sym s) ∙ e }
@@ -84,8 +89,7 @@ go_on first t last last' (w ∷ ws) [] xs ys tail names r r' s s' none e =
     let same : (switch_words s.0 w ++ s.1) ++ tail ≡ names = ap (λ (z : List Word). z ++ tail) (sym s.2) ∙ e ∙ ap (λ (z : List Word). z ++ names) s' in
     let bad : true ≡ false = ap begins_at same ∙ none in absurd (cc)
 go_on first t last last' (w ∷ ws) (v ∷ vs) xs ys tail names r r' s s' none e =
-    let lines : switch_words s.0 w ++ (s.1 ++ tail) ≡ switch_words s'.0 v ++ (s'.1 ++ names) =
-        sym (append_assoc (switch_words s.0 w) s.1 tail) ∙ ap (λ (z : List Word). z ++ tail) (sym s.2) ∙ e ∙ ap (λ (z : List Word). z ++ names) s'.2 ∙ append_assoc (switch_words s'.0 v) s'.1 names in
+    let lines = regroup (switch_words s.0 w) s.1 xs tail (switch_words s'.0 v) s'.1 ys names s.2 s'.2 e in
     let same = same_switch t s.0 s'.0 w v (s.1 ++ tail) (s'.1 ++ names) (r.1, record { accepted = r.2; kept = s.3 }) (r'.1, record { accepted = r'.2; kept = s'.3 }) lines in
     let k = go_on first w.after w.frame v.frame ws vs s.1 s'.1 tail names r.4 r'.4 s.4 (subst (λ (x : Switch). SpellSwitches x.after vs s'.1) (sym same.0) s'.4) none same.1 in
     record { more = k.more; is = ap (λ (x : Switch). x ∷ vs) (sym same.0) ∙ ap (λ (l : List Switch). w ∷ l) k.is; spelled = k.spelled; spells = k.spells; words = k.words }
@@ -116,9 +120,11 @@ keeps_more t (w ∷ ws) vs k m = (k.0, k.1, keeps_more w.after ws vs k.2 m)
 pub front_plan : (p q : Schedule) (w : Switch) (more : List Switch) → IsPlan q → q.first ≡ p.first → q.switches ≡ p.switches ++ w ∷ more → IsPlan (with_switch p w) × RisesFrom (last_start p) p.first.setting (w ∷ more)
 front_plan p q w more plan first is =
     let same : q.switches ≡ (p.switches ++ w ∷ []) ++ more = is ∙ sym (append_assoc p.switches (w ∷ []) more) in
-    let rising : RisesFrom 0 p.first.setting q.switches = subst (λ (t : Transmission). RisesFrom 0 t.setting q.switches) first plan.rising in
-    (record {
-      first = subst (λ (t : Transmission). IsAccepted t.setting) first plan.first;
-      few = (let n = plan.few in let k = ap length same in let m = length-append (p.switches ++ w ∷ []) more in omega (arith, n, k, m));
-      rising = rises_front 0 p.first.setting (p.switches ++ w ∷ []) more (subst (λ (l : List Switch). RisesFrom 0 p.first.setting l) same rising);
-    }, rises_behind 0 p.first.setting p.switches (w ∷ more) (subst (λ (l : List Switch). RisesFrom 0 p.first.setting l) is rising))
+    let rising : RisesFrom 0 p.first.setting q.switches = subst (λ (t : Transmission). RisesFrom 0 t.setting q.switches) first plan.rising in (
+      record {
+        first = subst (λ (t : Transmission). IsAccepted t.setting) first plan.first;
+        few = (let n = plan.few in let k = ap length same in let m = length-append (p.switches ++ w ∷ []) more in omega (arith, n, k, m));
+        rising = rises_front 0 p.first.setting (p.switches ++ w ∷ []) more (subst (λ (l : List Switch). RisesFrom 0 p.first.setting l) same rising);
+      },
+      rises_behind 0 p.first.setting p.switches (w ∷ more) (subst (λ (l : List Switch). RisesFrom 0 p.first.setting l) is rising),
+    )

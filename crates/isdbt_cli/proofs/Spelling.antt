@@ -1,5 +1,5 @@
 -- The words of the command remux, and those of all commands: what may follow the words that were read.
-use Rattle.std.proofs.Common.{◌≡◌, ◌≢◌, ℕ, ◌<◌, Bool, true, false, List, [], ◌∷◌, ◌++◌, take, None, Some, refl, sym, ap, ◌∙◌, subst, arith, append_assoc}
+use Rattle.std.proofs.Common.{◌≡◌, ◌≢◌, ℕ, Bool, true, false, List, [], ◌∷◌, ◌++◌, take, None, Some, refl, sym, ap, ◌∙◌, subst, arith, append_assoc}
 use Rattle.std.specs.Prelude.{codes, is_some}
 use Rattle.std.specs.Prelude.{option_map, MatchResult, Result, Ok, Err}
 use Rattle.isdbt_cli.specs.declared.command.Command.{Command as Parsed}
@@ -8,7 +8,6 @@ use Rattle.std.specs.declared.option.Option.{Option}
 use Rattle.std.proofs.lemmas.List.{append-nil, append_cancel_left}
 use Rattle.isdbt_base.specs.declared.kinds.Mode.TheVariants.{M1}
 use Rattle.isdbt_base.specs.declared.kinds.Guard.TheVariants.{G4}
-use Rattle.isdbt_base.specs.Parameters.{Parameters}
 use Rattle.isdbt_base.specs.Plans.{Switch, Schedule, IsPlan, RisesFrom, at_frame, at_from}
 use Rattle.isdbt_base.proofs.PlanEpochs.{at_from-before}
 use Rattle.isdbt_cli.specs.CommandLines.{Word, mode_word, guard_word, IsName, IsNameIfGiven, Command, remux, code, receive, SpellCommand, Spells, IsFaultAt}

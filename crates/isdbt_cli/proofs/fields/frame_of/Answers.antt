@@ -1,5 +1,4 @@
-use Rattle.std.proofs.Common.{◌≡◌, ◌≢◌, ℕ, Some, None, Ok, sym, ap, ◌∙◌, arith}
-use Rattle.std.specs.Prelude.{decimal}
+use Rattle.std.proofs.Common.{◌≡◌, Some, ap, ◌∙◌, arith}
 use Rattle.std.specs.List.{slice_get}
 use Rattle.isdbt_cli.proofs.Numbers.{frame_spelled, frame_head, frame_some, frame_read}
 use Rattle.isdbt_cli.proofs.fields.frame_of.Goals as goal

@@ -1,10 +1,9 @@
-use Rattle.std.proofs.Common.{true, [], ◌∷◌, ◌++◌, ap, ◌∙◌}
+use Rattle.std.proofs.Common.{◌++◌, ap, ◌∙◌}
 use Rattle.std.specs.Prelude.{codes}
 use Rattle.std.proofs.lemmas.Result.{err_from_is_err_and}
-use Rattle.std.proofs.lemmas.List.{append-nil}
 use Rattle.isdbt_cli.specs.CommandLines.{IsName}
 use Rattle.isdbt_cli.specs.Parsing.{Follows}
-use Rattle.isdbt_cli.proofs.Stuck.{stuck_word, stuck_end, reads_both}
+use Rattle.isdbt_cli.proofs.Stuck.{stuck_word, stuck_end}
 use Rattle.isdbt_cli.proofs.PlanLines.{input_words}
 use Rattle.isdbt_cli.proofs.CodeSpelling.{Line, follows, follows_some, name_follows, end_follows, behind_plan, spells}
 use Rattle.isdbt_cli.proofs.grammar.code.Goals as goal

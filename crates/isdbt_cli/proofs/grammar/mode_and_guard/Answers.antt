@@ -1,6 +1,6 @@
-use Rattle.std.proofs.Common.{◌≡◌, [], ◌∷◌, true, refl, sym, ap, ◌∙◌, take, ◌≢◌, rules}
+use Rattle.std.proofs.Common.{sym, ap, ◌∙◌, take, ◌≢◌, rules}
 use Rattle.std.proofs.lemmas.Result.{err_from_is_err_and}
-use Rattle.isdbt_cli.specs.CommandLines.{mode_word, guard_word}
+use Rattle.isdbt_cli.specs.CommandLines.{guard_word}
 use Rattle.isdbt_cli.specs.Parsing.{IsAny}
 use Rattle.isdbt_cli.proofs.Stuck.{misses}
 use Rattle.isdbt_cli.proofs.Transmissions.{same_head, guard_word-injective}
