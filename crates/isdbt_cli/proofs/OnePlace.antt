@@ -1,14 +1,12 @@
 -- Words are of one command at most, and have one place of a fault, or are a command's.
 use Rattle.std.proofs.Common.{◌≡◌, ℕ, ◌+◌, ◌<◌, ◌≤◌, true, false, List, [], ◌++◌, length, take, drop, refl, sym, ap, ◌∙◌, subst, arith, take-append-drop, append_assoc, inl, inr}
 use Rattle.std.specs.Prelude.{codes, is_some}
-use Rattle.std.specs.declared.option.Option.{Option}
 use Rattle.std.proofs.lemmas.List.{take-take, take_all, append-nil, append_cancel_left}
 use Rattle.std.proofs.lemmas.Bool.{cases_lt}
 use Rattle.isdbt_base.specs.Plans.{Schedule}
-use Rattle.isdbt_cli.specs.CommandLines.{Word, IsRemux, IsCode, SpellPlan, Command, remux, code, receive, Spells, CanGoOn, IsFaultAt}
-use Rattle.isdbt_cli.specs.Parsing.{SpellsPlan}
+use Rattle.isdbt_cli.specs.CommandLines.{Word, Command, remux, code, receive, Spells, CanGoOn, IsFaultAt}
 use Rattle.isdbt_cli.proofs.Transmissions.{mode_word-injective, guard_word-injective, same_head, same_tail}
-use Rattle.isdbt_cli.proofs.PlanLines.{names_words, input_words, NamesOf, remux_spelled, code_spelled, receive_spelled, remux_or_code, remux_or_receive, code_or_receive, same_line}
+use Rattle.isdbt_cli.proofs.PlanLines.{names_words, input_words, remux_spelled, code_spelled, receive_spelled, remux_or_code, remux_or_receive, code_or_receive, remux_line, code_line, same_line}
 use Rattle.isdbt_cli.proofs.Spelling.{same_names, name_of, first_word}
 
 -- ---- the place is one
@@ -46,23 +44,12 @@ no_place words c p s f =
 same_first : (words : List Word) (c d : Command) → Spells words c → Spells words d → name_of c ≡ name_of d
 same_first words c d s t = same_head (sym (first_word c words s.spelled).1 ∙ (first_word d words t.spelled).1)
 
-remux_plan : (p : Schedule) (a : Word) (b c : Option Word) (read : List Word) → IsRemux p a b c → SpellPlan p read → SpellsPlan false p read × NamesOf p.first.setting (names_words a b c)
-remux_plan p a b c read r s = (
-  record { plan = r.plan; keeps = λ e. absurd (cc); spelled = s },
-  record { a = a; b = b; c = c; a_name = r.a_name; b_name = r.b_name; c_name = r.c_name; b_used = r.b_used; c_used = r.c_used; words_are = refl },
-)
-
-code_plan : (p : Schedule) (name : Word) (read : List Word) → IsCode p name → SpellPlan p read → SpellsPlan true p read
-code_plan p name read r s = record { plan = r.plan; keeps = λ e. r.keeps; spelled = s }
-
 pub one_command : (words : List Word) (c d : Command) → Spells words c → Spells words d → c ≡ d
 one_command words (remux p a b c) (remux q a' b' c') s t =
     let k = remux_spelled p a b c words s.spelled in
     let l = remux_spelled q a' b' c' words t.spelled in
-    let first = remux_plan p a b c k.0 s.command k.1 in
-    let other = remux_plan q a' b' c' l.0 t.command l.1 in
-    let lines : k.0 ++ names_words a b c ≡ l.0 ++ names_words a' b' c' = same_tail (sym k.2 ∙ l.2) in
-    let same = same_line false p q k.0 l.0 (names_words a b c) (names_words a' b' c') first.0 other.0 first.1 other.1 lines in
+    let line : List Word = k.0 ++ names_words a b c in
+    let same = same_line false line (remux_line p a b c k.0 line s.command k.1 refl) (remux_line q a' b' c' l.0 line t.command l.1 (same_tail (sym k.2 ∙ l.2))) in
     let used_b : is_some b ≡ is_some b' = s.command.b_used ∙ ap (λ (x : Schedule). is_some x.first.setting.b) same.0 ∙ sym t.command.b_used in
     let used_c : is_some c ≡ is_some c' = s.command.c_used ∙ ap (λ (x : Schedule). is_some x.first.setting.c) same.0 ∙ sym t.command.c_used in
     let names = same_names a a' b b' c c' used_b used_c same.1 in
@@ -82,9 +69,7 @@ one_command words (receive m g name) (receive m' g' name') s t =
 one_command words (code p name) (code q name') s t =
     let k = code_spelled p name words s.spelled in
     let l = code_spelled q name' words t.spelled in
-    let first = code_plan p name k.0 s.command k.1 in
-    let other = code_plan q name' l.0 t.command l.1 in
-    let lines : k.0 ++ input_words name ≡ l.0 ++ input_words name' = same_tail (sym k.2 ∙ l.2) in
-    let same = same_line true p q k.0 l.0 (input_words name) (input_words name') first other (name, s.command.input_name, refl) (name', t.command.input_name, refl) lines in
+    let line : List Word = k.0 ++ input_words name in
+    let same = same_line true line (code_line p name k.0 line s.command k.1 refl) (code_line q name' l.0 line t.command l.1 (same_tail (sym k.2 ∙ l.2))) in
     let names : name ≡ name' = append_cancel_left (codes "IN=") name name' (same_head same.1) in
     ap (λ x. code x name) same.0 ∙ ap (λ x. code q x) names

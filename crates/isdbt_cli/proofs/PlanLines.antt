@@ -11,7 +11,7 @@ use Rattle.isdbt_base.specs.Plans.{Transmission, Switch, Schedule, IsPlan, Rises
 use Rattle.isdbt_base.specs.Epochs.{last_sent, last_start}
 use Rattle.isdbt_base.specs.Switching.{with_switch}
 use Rattle.isdbt_base.proofs.PlanEpochs.{plan-append}
-use Rattle.isdbt_cli.specs.CommandLines.{Word, mode_word, guard_word, transmission_words, frame_word, switch_words, SpellSwitches, SpellPlan, other_input_words, IsName, IsNameIfGiven, remux, code, receive, SpellCommand}
+use Rattle.isdbt_cli.specs.CommandLines.{Word, mode_word, guard_word, transmission_words, frame_word, switch_words, SpellSwitches, SpellPlan, other_input_words, IsName, IsNameIfGiven, remux, code, receive, SpellCommand, IsRemux, IsCode}
 use Rattle.isdbt_cli.specs.Parsing.{Unread, Reads, IsStuck, Follows, named, StartsWith, Change, change_words, IsChange, IsLater, AddsSwitch, EndsPlan, ReadsSwitch, IsStuckInSwitch, SpellsPlan, ReadsPlan, HasNoFrame, planned}
 use Rattle.isdbt_cli.proofs.Stuck.{stuck_piece, reads_both}
 use Rattle.isdbt_cli.proofs.SwitchStuck.{Changes}
@@ -130,31 +130,37 @@ line_follows true words l =
       },
     )
 
+pub not_steady : false ≡ true → ⊥
+not_steady e = cc
+
+-- the lines of the two commands
+abbrev pub remux_line : (p : Schedule) (a : Word) (b c : Option Word) (read words : List Word) → IsRemux p a b c → SpellPlan p read → words ≡ read ++ names_words a b c → PlanLine false words
+remux_line p a b c read words r s e = record {
+  p = p;
+  read = read;
+  spells = record { plan = r.plan; keeps = λ e. absurd (not_steady e); spelled = s };
+  rest = names_words a b c;
+  inputs = record { a = a; b = b; c = c; a_name = r.a_name; b_name = r.b_name; c_name = r.c_name; b_used = r.b_used; c_used = r.c_used; words_are = refl };
+  words_are = e;
+}
+
+abbrev pub code_line : (p : Schedule) (name : Word) (read words : List Word) → IsCode p name → SpellPlan p read → words ≡ read ++ input_words name → PlanLine true words
+code_line p name read words r s e = record {
+  p = p;
+  read = read;
+  spells = record { plan = r.plan; keeps = λ e. r.keeps; spelled = s };
+  rest = input_words name;
+  inputs = (name, r.input_name, refl);
+  words_are = e;
+}
+
 pub follows_line : (steady : Bool) (words : List Word) → Follows (planned steady) words → PlanLine steady words
 follows_line false words (code p name, s) = absurd (remux_or_code (same_head (code_spelled p name (codes "remux" ∷ words) s.spelled).2))
 follows_line false words (receive mode guard name, s) = absurd (remux_or_receive (same_head (receive_spelled mode guard name (codes "remux" ∷ words) s.spelled)))
-follows_line false words (remux p a b c, s) =
-    let k = remux_spelled p a b c (codes "remux" ∷ words) s.spelled in
-    record {
-      p = p;
-      read = k.0;
-      spells = record { plan = s.command.plan; keeps = λ e. absurd (cc); spelled = k.1 };
-      rest = names_words a b c;
-      inputs = record { a = a; b = b; c = c; a_name = s.command.a_name; b_name = s.command.b_name; c_name = s.command.c_name; b_used = s.command.b_used; c_used = s.command.c_used; words_are = refl };
-      words_are = same_tail k.2;
-    }
+follows_line false words (remux p a b c, s) = (let k = remux_spelled p a b c (codes "remux" ∷ words) s.spelled in remux_line p a b c k.0 words s.command k.1 (same_tail k.2))
 follows_line true words (remux p a b c, s) = absurd (remux_or_code (sym (same_head (remux_spelled p a b c (codes "code" ∷ words) s.spelled).2)))
 follows_line true words (receive mode guard name, s) = absurd (code_or_receive (same_head (receive_spelled mode guard name (codes "code" ∷ words) s.spelled)))
-follows_line true words (code p name, s) =
-    let k = code_spelled p name (codes "code" ∷ words) s.spelled in
-    record {
-      p = p;
-      read = k.0;
-      spells = record { plan = s.command.plan; keeps = λ e. s.command.keeps; spelled = k.1 };
-      rest = input_words name;
-      inputs = (name, s.command.input_name, refl);
-      words_are = same_tail k.2;
-    }
+follows_line true words (code p name, s) = (let k = code_spelled p name (codes "code" ∷ words) s.spelled in code_line p name k.0 words s.command k.1 (same_tail k.2))
 
 -- ---- behind a plan's front
 
@@ -184,7 +190,7 @@ line_behind steady p read words s l =
     let inputs : Inputs steady p.first.setting l.rest = subst (λ (t : Transmission). Inputs steady t.setting l.rest) first l.inputs in
     let rising : RisesFrom 0 p.first.setting l.p.switches = subst (λ (t : Transmission). RisesFrom 0 t.setting l.p.switches) first l.spells.plan.rising in
     let spells : SpellSwitches p.first l.p.switches b' = subst (λ (t : Transmission). SpellSwitches t l.p.switches b') first l.spells.spelled.switches in
-    let k = go_on p.first.setting p.first 0 0 p.switches l.p.switches b b' words l.rest s.plan.rising rising s.spelled.switches spells (inputs_begin steady p.first.setting l.rest inputs) same.1 in
+    let k = go_on p.first.setting words l.rest (inputs_begin steady p.first.setting l.rest inputs) p.first p.switches l.p.switches b b' (record { last = 0; rises = s.plan.rising; spells = s.spelled.switches }) (record { last = 0; rises = rising; spells = spells }) same.1 in
     record {
       more = k.more;
       spelled = k.spelled;
@@ -216,16 +222,16 @@ inputs_behind steady p {rest = rest} words b begins = go b.more b.spells
     go [] s = subst (λ (ws : List Word). Inputs steady p.first.setting ws) (sym (b.words_are ∙ ap (λ (ws : List Word). ws ++ rest) s)) b.inputs
     go (w ∷ more) s = absurd (let bad : false ≡ true = sym begins ∙ ap begins_at (b.words_are ∙ ap (λ (ws : List Word). ws ++ rest) s.2) in cc)
 
--- words are of one plan, and of one list of inputs behind it
-pub same_line : (steady : Bool) (p q : Schedule) (read read' xs ys : List Word) → SpellsPlan steady p read → SpellsPlan steady q read' → Inputs steady p.first.setting xs → Inputs steady q.first.setting ys → read ++ xs ≡ read' ++ ys → (p ≡ q) × (xs ≡ ys)
-same_line steady p q read read' xs ys s t i j e = go b.more b.switches b.spells
+-- a line is of one plan, and of one list of words behind it
+pub same_line : (steady : Bool) (words : List Word) (k l : PlanLine steady words) → (k.p ≡ l.p) × (k.rest ≡ l.rest)
+same_line steady words k l = go b.more b.switches b.spells
   where
-    b : Behind steady p q ys xs
-    b = line_behind steady p read xs s (record { p = q; read = read'; spells = t; rest = ys; inputs = j; words_are = e })
+    b : Behind steady k.p l.p l.rest k.rest
+    b = line_behind steady k.p k.read k.rest k.spells (record { p = l.p; read = l.read; spells = l.spells; rest = l.rest; inputs = l.inputs; words_are = sym k.words_are ∙ l.words_are })
 
-    go : (more : List Switch) → q.switches ≡ p.switches ++ more → SpellSwitches (last_sent p) more b.spelled → (p ≡ q) × (xs ≡ ys)
-    go [] is none = (alike_plans p q (sym b.first) (sym (is ∙ append-nil p.switches)), b.words_are ∙ ap (λ (ws : List Word). ws ++ ys) none)
-    go (w ∷ more) is some = absurd (let bad : false ≡ true = sym (inputs_begin steady p.first.setting xs i) ∙ ap begins_at (b.words_are ∙ ap (λ (ws : List Word). ws ++ ys) some.2) in cc)
+    go : (more : List Switch) → l.p.switches ≡ k.p.switches ++ more → SpellSwitches (last_sent k.p) more b.spelled → (k.p ≡ l.p) × (k.rest ≡ l.rest)
+    go [] is none = (alike_plans k.p l.p (sym b.first) (sym (is ∙ append-nil k.p.switches)), b.words_are ∙ ap (λ (ws : List Word). ws ++ l.rest) none)
+    go (w ∷ more) is some = absurd (let bad : false ≡ true = sym (inputs_begin steady k.p.first.setting k.rest k.inputs) ∙ ap begins_at (b.words_are ∙ ap (λ (ws : List Word). ws ++ l.rest) some.2) in cc)
 
 -- what may stand behind a frame
 pub change_behind : (steady : Bool) (p : Schedule) {q : Schedule} {rest : List Word} (frame : ℕ) (ws : List Word) → Behind steady p q rest (frame_word frame ∷ ws) → Changes steady p.first.setting (last_sent p).mode (last_sent p).guard ws

@@ -77,22 +77,31 @@ pub record GoOn (t : Transmission) (ws vs : List Switch) (tail names : List Word
   pub spells : SpellSwitches (last_sent_from t ws) more spelled
   pub words : tail ≡ spelled ++ names
 
+-- switches that rise to accepted settings with these layers, and their words
+pub record Spelled (first : Parameters) (t : Transmission) (ws : List Switch) (words : List Word) : Type 0 where
+  pub last : ℕ
+  pub rises : RisesFrom last first ws
+  pub spells : SpellSwitches t ws words
+
 -- two lists of three parts that are equal
-regroup : (a b xs tail c d ys names : List Word) → xs ≡ a ++ b → ys ≡ c ++ d → xs ++ tail ≡ ys ++ names → a ++ (b ++ tail) ≡ c ++ (d ++ names)
-regroup a b xs tail c d ys names s s' e =
+regroup : (a b c d tail names : List Word) {xs ys : List Word} → xs ≡ a ++ b → ys ≡ c ++ d → xs ++ tail ≡ ys ++ names → a ++ (b ++ tail) ≡ c ++ (d ++ names)
+regroup a b c d tail names s s' e =
     sym (append_assoc a b tail) ∙ ap (λ (z : List Word). z ++ tail) (sym s) ∙ e ∙ ap (λ (z : List Word). z ++ names) s' ∙ append_assoc c d names
 
-pub go_on : (first : Parameters) (t : Transmission) (last last' : ℕ) (ws vs : List Switch) (xs ys tail names : List Word) → RisesFrom last first ws → RisesFrom last' first vs → SpellSwitches t ws xs → SpellSwitches t vs ys → begins_at names ≡ false
-    → xs ++ tail ≡ ys ++ names → GoOn t ws vs tail names
-go_on first t last last' [] vs xs ys tail names r r' s s' none e = record { more = vs; is = refl; spelled = ys; spells = s'; words = ap (λ (z : List Word). z ++ tail) (sym s) ∙ e }
-go_on first t last last' (w ∷ ws) [] xs ys tail names r r' s s' none e =
-    let same : (switch_words s.0 w ++ s.1) ++ tail ≡ names = ap (λ (z : List Word). z ++ tail) (sym s.2) ∙ e ∙ ap (λ (z : List Word). z ++ names) s' in
-    let bad : true ≡ false = ap begins_at same ∙ none in absurd (cc)
-go_on first t last last' (w ∷ ws) (v ∷ vs) xs ys tail names r r' s s' none e =
-    let lines = regroup (switch_words s.0 w) s.1 xs tail (switch_words s'.0 v) s'.1 ys names s.2 s'.2 e in
-    let same = same_switch t s.0 s'.0 w v (s.1 ++ tail) (s'.1 ++ names) (r.1, record { accepted = r.2; kept = s.3 }) (r'.1, record { accepted = r'.2; kept = s'.3 }) lines in
-    let k = go_on first w.after w.frame v.frame ws vs s.1 s'.1 tail names r.4 r'.4 s.4 (subst (λ (x : Switch). SpellSwitches x.after vs s'.1) (sym same.0) s'.4) none same.1 in
-    record { more = k.more; is = ap (λ (x : Switch). x ∷ vs) (sym same.0) ∙ ap (λ (l : List Switch). w ∷ l) k.is; spelled = k.spelled; spells = k.spells; words = k.words }
+module _ (first : Parameters) (tail names : List Word) (none : begins_at names ≡ false) where
+  pub go_on : (t : Transmission) (ws vs : List Switch) (xs ys : List Word) → Spelled first t ws xs → Spelled first t vs ys → xs ++ tail ≡ ys ++ names → GoOn t ws vs tail names
+  go_on t [] vs xs ys s s' e = record { more = vs; is = refl; spelled = ys; spells = s'.spells; words = ap (λ (z : List Word). z ++ tail) (sym s.spells) ∙ e }
+  go_on t (w ∷ ws) [] xs ys s s' e =
+      let same : (switch_words s.spells.0 w ++ s.spells.1) ++ tail ≡ names = ap (λ (z : List Word). z ++ tail) (sym s.spells.2) ∙ e ∙ ap (λ (z : List Word). z ++ names) s'.spells in
+      let bad : true ≡ false = ap begins_at same ∙ none in absurd (cc)
+  go_on t (w ∷ ws) (v ∷ vs) xs ys s s' e =
+      let k = s.spells in
+      let l = s'.spells in
+      let r = s.rises in
+      let r' = s'.rises in
+      let same = same_switch t k.0 l.0 w v (k.1 ++ tail) (l.1 ++ names) (r.1, record { accepted = r.2; kept = k.3 }) (r'.1, record { accepted = r'.2; kept = l.3 }) (regroup (switch_words k.0 w) k.1 (switch_words l.0 v) l.1 tail names k.2 l.2 e) in
+      let rest = go_on w.after ws vs k.1 l.1 (record { last = w.frame; rises = r.4; spells = k.4 }) (record { last = v.frame; rises = r'.4; spells = subst (λ (x : Switch). SpellSwitches x.after vs l.1) (sym same.0) l.4 }) same.1 in
+      record { more = rest.more; is = ap (λ (x : Switch). x ∷ vs) (sym same.0) ∙ ap (λ (y : List Switch). w ∷ y) rest.is; spelled = rest.spelled; spells = rest.spells; words = rest.words }
 
 pub spell_more : (t : Transmission) (ws vs : List Switch) (xs ys : List Word) → SpellSwitches t ws xs → SpellSwitches (last_sent_from t ws) vs ys → SpellSwitches t (ws ++ vs) (xs ++ ys)
 spell_more t [] vs xs ys s m = subst (λ (z : List Word). SpellSwitches t vs (z ++ ys)) (sym s) m
