@@ -76,8 +76,8 @@ fn receive<'a>(words: &mut Cursor<'a>) -> Result<Command<'a>, u64>
     })
 }
 
-/// A plan, with switches as long as the next word is a frame at which it takes one. A steady plan's switches keep the mode
-/// and the guard interval.
+/// A plan, with switches as long as the next word is a frame at which it takes one; another word ends it. A steady plan's
+/// switches keep the mode and the guard interval.
 fn plan(words: &mut Cursor<'_>, steady: bool) -> Result<Plan, u64>
     ensures ok { IfOk result (λ p. ReadsPlan steady p words.old words.new) }
     ensures end { IfOk result (λ p. HasNoFrame p words.new) }
