@@ -19,7 +19,8 @@ follows p read name s some = line_follows true (read ++ input_words name) (recor
 pub follows_some : (p : Schedule) (read : List Word) → SpellsPlan true p read → (more : List Word) × Line read more
 follows_some p read s = (let n = some_inputs true p.first.setting in (n.0, line_follows true (read ++ n.0) (record { p = p; read = read; spells = s; rest = n.0; inputs = n.1; words_are = refl })))
 
-pub name_follows : (p : Schedule) (read : List Word) (v : Unread) → SpellsPlan true p read → HasNoFrame p v → (ws : List Word) → Line read ws → take 1 ws ≡ take 1 v.words → BeginsWith IsName (λ name. (codes "IN=" ++ name) ∷ []) ws
+pub name_follows : (p : Schedule) (read : List Word) (v : Unread) → SpellsPlan true p read → HasNoFrame p v → (ws : List Word) → Line read ws
+    → take 1 ws ≡ take 1 v.words → BeginsWith IsName (λ name. (codes "IN=" ++ name) ∷ []) ws
 name_follows p read v s none ws f heads = (let n = inputs_next true p ws v (line_behind true p read ws s (follows_line true (read ++ ws) f)) none heads in (n.0, n.1, [], n.2))
 
 -- the end
@@ -30,7 +31,8 @@ end_follows p read name s ws f = same_tail (inputs_behind true p ((codes "IN=" +
 pub behind_plan : (read : List Word) (u v : Unread) (place : ℕ) → Reads read u v → IsStuck (Line read) v place → IsStuck (Follows (codes "code")) u place
 behind_plan read u v place r s = stuck_behind (Line read) (Follows (codes "code")) read u v place r (λ ws f. f) (λ ws f. f) s
 
-pub spells : (p : Schedule) (read : List Word) (name : Word) (words : List Word) → SpellsPlan true p read → IsName name → words ≡ read ++ input_words name → Spells (codes "code" ∷ words) (code p name)
+pub spells : (p : Schedule) (read : List Word) (name : Word) (words : List Word) → SpellsPlan true p read → IsName name → words ≡ read ++ input_words name
+    → Spells (codes "code" ∷ words) (code p name)
 spells p read name words s some e = record {
   command = record { plan = s.plan; keeps = s.keeps refl; input_name = some };
   spelled = subst (λ (ws : List Word). SpellCommand (code p name) (codes "code" ∷ ws)) (sym e) (spell_code p name read s.spelled);

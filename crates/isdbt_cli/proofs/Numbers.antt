@@ -107,7 +107,8 @@ no_head [] some e = omega (arith, some)
 no_head (y ∷ text) some e = cc
 
 -- a number that is read from a text that begins neither with a zero nor with a sign is spelled by it
-pub frame_spelled : {E : Type 0} (text : List ℕ) (x : ℕ) (r : Result ℕ E) (n : ℕ) → Some x ≡ slice_get text 0 → x ≢ 48 → x ≢ 43 → ParsesUnsigned 32 10 text r → r ≡ Ok n → (0 < n) × (text ≡ decimal n)
+pub frame_spelled : {E : Type 0} (text : List ℕ) (x : ℕ) (r : Result ℕ E) (n : ℕ) → Some x ≡ slice_get text 0 → x ≢ 48 → x ≢ 43 → ParsesUnsigned 32 10 text r
+    → r ≡ Ok n → (0 < n) × (text ≡ decimal n)
 frame_spelled text x r n head no_zero no_plus parses is =
     let first = head_is text x head in
     let plain = parse_plain (numerals_by_value (AllDigits 10) tells_digits) 32 text r parses (λ e. no_plus (sym first ∙ e)) in

@@ -38,7 +38,8 @@ pub spell_remux : (p : Schedule) (a : Word) (b c : Option Word) (plan : List Wor
 unfolding SpellCommand
 spell_remux p a b c plan s = (plan, s, rw (← named-b b, ← named-c c) refl)
 
-pub remux_spelled : (p : Schedule) (a : Word) (b c : Option Word) (words : List Word) → SpellCommand (remux p a b c) words → (plan : List Word) × SpellPlan p plan × (words ≡ codes "remux" ∷ (plan ++ names_words a b c))
+pub remux_spelled : (p : Schedule) (a : Word) (b c : Option Word) (words : List Word) → SpellCommand (remux p a b c) words
+    → (plan : List Word) × SpellPlan p plan × (words ≡ codes "remux" ∷ (plan ++ names_words a b c))
 unfolding SpellCommand
 remux_spelled p a b c words s = (s.0, s.1, s.2 ∙ rw (← named-b b, ← named-c c) refl)
 
@@ -46,7 +47,8 @@ pub spell_code : (p : Schedule) (name : Word) (plan : List Word) → SpellPlan p
 unfolding SpellCommand
 spell_code p name plan s = (plan, s, refl)
 
-pub code_spelled : (p : Schedule) (name : Word) (words : List Word) → SpellCommand (code p name) words → (plan : List Word) × SpellPlan p plan × (words ≡ codes "code" ∷ (plan ++ input_words name))
+pub code_spelled : (p : Schedule) (name : Word) (words : List Word) → SpellCommand (code p name) words
+    → (plan : List Word) × SpellPlan p plan × (words ≡ codes "code" ∷ (plan ++ input_words name))
 unfolding SpellCommand
 code_spelled p name words s = s
 
@@ -54,7 +56,8 @@ pub spell_receive : (mode : Mode) (guard : Guard) (name : Word) → SpellCommand
 unfolding SpellCommand
 spell_receive mode guard name = refl
 
-pub receive_spelled : (mode : Mode) (guard : Guard) (name : Word) (words : List Word) → SpellCommand (receive mode guard name) words → words ≡ codes "receive" ∷ mode_word mode ∷ guard_word guard ∷ input_words name
+pub receive_spelled : (mode : Mode) (guard : Guard) (name : Word) (words : List Word) → SpellCommand (receive mode guard name) words
+    → words ≡ codes "receive" ∷ mode_word mode ∷ guard_word guard ∷ input_words name
 unfolding SpellCommand
 receive_spelled mode guard name words s = s
 
@@ -207,7 +210,8 @@ alike_plans : (p q : Schedule) → p.first ≡ q.first → p.switches ≡ q.swit
 alike_plans p q first switches = ap (λ t. record { first = t; switches = p.switches }) first ∙ ap (λ l. record { first = q.first; switches = l }) switches
 
 -- no frame that may follow is next, so the inputs follow
-pub inputs_next : (steady : Bool) (p : Schedule) {q : Schedule} {rest : List Word} (words : List Word) (v : Unread) → Behind steady p q rest words → HasNoFrame p v → take 1 words ≡ take 1 v.words → Inputs steady p.first.setting words
+pub inputs_next : (steady : Bool) (p : Schedule) {q : Schedule} {rest : List Word} (words : List Word) (v : Unread) → Behind steady p q rest words → HasNoFrame p v
+    → take 1 words ≡ take 1 v.words → Inputs steady p.first.setting words
 inputs_next steady p {q = q} {rest = rest} words v b none heads = go b.more b.switches b.spells
   where
     go : (more : List Switch) → q.switches ≡ p.switches ++ more → SpellSwitches (last_sent p) more b.spelled → Inputs steady p.first.setting words
@@ -215,7 +219,8 @@ inputs_next steady p {q = q} {rest = rest} words v b none heads = go b.more b.sw
     go (w ∷ more) is s = absurd (none w (front_plan p q w more b.plan b.first is).0 (sym heads ∙ ap (take 1) (b.words_are ∙ ap (λ (ws : List Word). ws ++ rest) s.2)))
 
 -- words that don't begin with a frame are those of the inputs
-pub inputs_behind : (steady : Bool) (p : Schedule) {q : Schedule} {rest : List Word} (words : List Word) → Behind steady p q rest words → begins_at words ≡ false → Inputs steady p.first.setting words
+pub inputs_behind : (steady : Bool) (p : Schedule) {q : Schedule} {rest : List Word} (words : List Word) → Behind steady p q rest words → begins_at words ≡ false
+    → Inputs steady p.first.setting words
 inputs_behind steady p {rest = rest} words b begins = go b.more b.spells
   where
     go : (more : List Switch) → SpellSwitches (last_sent p) more b.spelled → Inputs steady p.first.setting words
@@ -234,10 +239,12 @@ same_line steady words k l = go b.more b.switches b.spells
     go (w ∷ more) is some = absurd (let bad : false ≡ true = sym (inputs_begin steady k.p.first.setting k.rest k.inputs) ∙ ap begins_at (b.words_are ∙ ap (λ (ws : List Word). ws ++ l.rest) some.2) in cc)
 
 -- what may stand behind a frame
-pub change_behind : (steady : Bool) (p : Schedule) {q : Schedule} {rest : List Word} (frame : ℕ) (ws : List Word) → Behind steady p q rest (frame_word frame ∷ ws) → Changes steady p.first.setting (last_sent p).mode (last_sent p).guard ws
+pub change_behind : (steady : Bool) (p : Schedule) {q : Schedule} {rest : List Word} (frame : ℕ) (ws : List Word) → Behind steady p q rest (frame_word frame ∷ ws)
+    → Changes steady p.first.setting (last_sent p).mode (last_sent p).guard ws
 change_behind steady p {q = q} {rest = rest} frame ws b = go b.more b.switches b.keeps b.spells
   where
-    go : (more : List Switch) → q.switches ≡ p.switches ++ more → (steady ≡ true → KeepsMode (last_sent p) more) → SpellSwitches (last_sent p) more b.spelled → Changes steady p.first.setting (last_sent p).mode (last_sent p).guard ws
+    go : (more : List Switch) → q.switches ≡ p.switches ++ more → (steady ≡ true → KeepsMode (last_sent p) more) → SpellSwitches (last_sent p) more b.spelled
+        → Changes steady p.first.setting (last_sent p).mode (last_sent p).guard ws
     go [] is keeps s =
         let words : frame_word frame ∷ ws ≡ rest = b.words_are ∙ ap (λ (x : List Word). x ++ rest) s in
         absurd (let bad : true ≡ false = ap begins_at words ∙ inputs_begin steady p.first.setting rest b.inputs in cc)
@@ -249,7 +256,8 @@ change_behind steady p {q = q} {rest = rest} frame ws b = go b.more b.switches b
 
 -- ---- one more switch
 
-pub spells_more : (steady : Bool) (p : Schedule) (read : List Word) (frame : ℕ) (c : Change) → SpellsPlan steady p read → length p.switches < 7 → IsLater (last_start p) frame → IsChange steady p.first.setting (last_sent p).mode (last_sent p).guard c
+pub spells_more : (steady : Bool) (p : Schedule) (read : List Word) (frame : ℕ) (c : Change) → SpellsPlan steady p read → length p.switches < 7
+    → IsLater (last_start p) frame → IsChange steady p.first.setting (last_sent p).mode (last_sent p).guard c
     → SpellsPlan steady (with_switch p (record { frame = frame; after = c.after })) (read ++ frame_word frame ∷ change_words c)
 spells_more steady p read frame c s room later valid =
     let w : Switch = record { frame = frame; after = c.after } in
@@ -287,12 +295,14 @@ pub count_more : (steady : Bool) (p q : Schedule) (v w : Unread) (n : ℕ) → l
 count_more steady p q v w n is a = (let k = ap (λ (x : Schedule). length x.switches) a.is in let m = length-append p.switches (record { frame = a.frame; after = a.change.after } ∷ []) in omega (arith, is, k, m))
 
 -- behind a frame the words of a switch get stuck
-pub stuck_switch : (steady : Bool) (p : Schedule) (u v : Unread) (place : ℕ) → ReadsPlan steady p u v → length p.switches < 7 → IsStuckInSwitch steady p v place → IsStuck (Follows (planned steady)) u place
+pub stuck_switch : (steady : Bool) (p : Schedule) (u v : Unread) (place : ℕ) → ReadsPlan steady p u v → length p.switches < 7 → IsStuckInSwitch steady p v place
+    → IsStuck (Follows (planned steady)) u place
 stuck_switch steady p u v place r room s =
     stuck_piece (IsChange steady p.first.setting (last_sent p).mode (last_sent p).guard) change_words (Follows (planned steady)) (r.read ++ frame_word s.frame ∷ []) u s.behind place
     (reads_both r.read (frame_word s.frame ∷ []) u v s.behind r.reads s.reads) up down s.stuck
   where
-    up : (c : Change) → IsChange steady p.first.setting (last_sent p).mode (last_sent p).guard c → (more : List Word) × Follows (planned steady) ((r.read ++ frame_word s.frame ∷ []) ++ (change_words c ++ more))
+    up : (c : Change) → IsChange steady p.first.setting (last_sent p).mode (last_sent p).guard c
+        → (more : List Word) × Follows (planned steady) ((r.read ++ frame_word s.frame ∷ []) ++ (change_words c ++ more))
     up c valid =
         let n = some_inputs steady p.first.setting in (
           n.0,

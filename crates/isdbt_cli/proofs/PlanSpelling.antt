@@ -60,7 +60,8 @@ same_change mode guard false false t u xs ys f g e =
 pub same_frame : (f g : ℕ) → f ≤ 16777215 → g ≤ 16777215 → frame_word f ≡ frame_word g → f ≡ g
 same_frame f g few few' e = decimal_injective f g (omega (arith, few)) (omega (arith, few')) (append_cancel_left (codes "@") (decimal f) (decimal g) e)
 
-same_switch : (t : Transmission) (told told' : Bool) (w v : Switch) (xs ys : List Word) → (w.frame ≤ 16777215) × MayFollow t.mode t.guard told w.after → (v.frame ≤ 16777215) × MayFollow t.mode t.guard told' v.after
+same_switch : (t : Transmission) (told told' : Bool) (w v : Switch) (xs ys : List Word) → (w.frame ≤ 16777215) × MayFollow t.mode t.guard told w.after
+    → (v.frame ≤ 16777215) × MayFollow t.mode t.guard told' v.after
     → switch_words told w ++ xs ≡ switch_words told' v ++ ys → (w ≡ v) × (xs ≡ ys)
 same_switch t told told' w v xs ys f g e =
     let frames = same_frame w.frame v.frame f.0 g.0 (same_head e) in
@@ -126,7 +127,8 @@ keeps_more t (w ∷ ws) vs k m = (k.0, k.1, keeps_more w.after ws vs k.2 m)
 -- ---- plans behind a front of them
 
 -- a plan that goes on with this switch
-pub front_plan : (p q : Schedule) (w : Switch) (more : List Switch) → IsPlan q → q.first ≡ p.first → q.switches ≡ p.switches ++ w ∷ more → IsPlan (with_switch p w) × RisesFrom (last_start p) p.first.setting (w ∷ more)
+pub front_plan : (p q : Schedule) (w : Switch) (more : List Switch) → IsPlan q → q.first ≡ p.first → q.switches ≡ p.switches ++ w ∷ more
+    → IsPlan (with_switch p w) × RisesFrom (last_start p) p.first.setting (w ∷ more)
 front_plan p q w more plan first is =
     let same : q.switches ≡ (p.switches ++ w ∷ []) ++ more = is ∙ sym (append_assoc p.switches (w ∷ []) more) in
     let rising : RisesFrom 0 p.first.setting q.switches = subst (λ (t : Transmission). RisesFrom 0 t.setting q.switches) first plan.rising in (

@@ -33,7 +33,8 @@ followed p read words s begins f = inputs_behind false p words (line_behind fals
 pub follows_some : (p : Schedule) (read : List Word) → SpellsPlan false p read → (more : List Word) × Line read more
 follows_some p read s = (let n = some_inputs false p.first.setting in (n.0, follows p read n.0 s n.1))
 
-pub a_follows : (p : Schedule) (read : List Word) (v : Unread) → SpellsPlan false p read → HasNoFrame p v → (ws : List Word) → Line read ws → take 1 ws ≡ take 1 v.words → BeginsWith IsName (λ a. (codes "A=" ++ a) ∷ []) ws
+pub a_follows : (p : Schedule) (read : List Word) (v : Unread) → SpellsPlan false p read → HasNoFrame p v → (ws : List Word) → Line read ws
+    → take 1 ws ≡ take 1 v.words → BeginsWith IsName (λ a. (codes "A=" ++ a) ∷ []) ws
 a_follows p read v s none ws f heads =
     let n = inputs_next false p ws v (line_behind false p read ws s (follows_line false (read ++ ws) f)) none heads in
     (n.a, n.a_name, named (codes "B=") n.b ++ named (codes "C=") n.c, n.words_are)
@@ -42,12 +43,14 @@ a_follows p read v s none ws f heads =
 abbrev pub read_a : Word → List Word
 read_a a = (codes "A=" ++ a) ∷ []
 
-pub follows_b : (p : Schedule) (read : List Word) (a : Word) → SpellsPlan false p read → IsName a → (o : Option Word) → IsNameIfGiven o × (is_some o ≡ is_some p.first.setting.b) → (more : List Word) × Line read (read_a a ++ (named (codes "B=") o ++ more))
+pub follows_b : (p : Schedule) (read : List Word) (a : Word) → SpellsPlan false p read → IsName a → (o : Option Word)
+    → IsNameIfGiven o × (is_some o ≡ is_some p.first.setting.b) → (more : List Word) × Line read (read_a a ++ (named (codes "B=") o ++ more))
 follows_b p read a s name o given =
     let c = some_named (is_some p.first.setting.c) in
     (named (codes "C=") c.0, follows p read (names_words a o c.0) s (record { a = a; b = o; c = c.0; a_name = name; b_name = given.0; c_name = c.1; b_used = given.1; c_used = c.2; words_are = refl }))
 
-pub b_follows : (p : Schedule) (read : List Word) (a : Word) → SpellsPlan false p read → (ws : List Word) → Line read (read_a a ++ ws) → BeginsWith (λ o. IsNameIfGiven o × (is_some o ≡ is_some p.first.setting.b)) (named (codes "B=")) ws
+pub b_follows : (p : Schedule) (read : List Word) (a : Word) → SpellsPlan false p read → (ws : List Word) → Line read (read_a a ++ ws)
+    → BeginsWith (λ o. IsNameIfGiven o × (is_some o ≡ is_some p.first.setting.b)) (named (codes "B=")) ws
 b_follows p read a s ws f = (let n = followed p read ((codes "A=" ++ a) ∷ ws) s refl f in (n.b, (n.b_name, n.b_used), named (codes "C=") n.c, same_tail n.words_are))
 
 -- that of layer C's
@@ -60,12 +63,14 @@ named_behind None (Some y) c ws same e = absurd (cc)
 named_behind (Some x) None c ws same e = absurd (cc)
 named_behind (Some x) (Some y) c ws same e = same_tail e
 
-names_follow : (p : Schedule) (read : List Word) (a : Word) (b : Option Word) → SpellsPlan false p read → is_some b ≡ is_some p.first.setting.b → (ws : List Word) → Line read (read_b a b ++ ws) → (c : Option Word) × IsNameIfGiven c × (is_some c ≡ is_some p.first.setting.c) × (ws ≡ named (codes "C=") c)
+names_follow : (p : Schedule) (read : List Word) (a : Word) (b : Option Word) → SpellsPlan false p read → is_some b ≡ is_some p.first.setting.b → (ws : List Word)
+    → Line read (read_b a b ++ ws) → (c : Option Word) × IsNameIfGiven c × (is_some c ≡ is_some p.first.setting.c) × (ws ≡ named (codes "C=") c)
 names_follow p read a b s used ws f =
     let n = followed p read ((codes "A=" ++ a) ∷ (named (codes "B=") b ++ ws)) s refl f in
     (n.c, n.c_name, n.c_used, named_behind b n.b n.c ws (used ∙ sym n.b_used) (same_tail n.words_are))
 
-pub follows_c : (p : Schedule) (read : List Word) (a : Word) (b : Option Word) → SpellsPlan false p read → IsName a → IsNameIfGiven b × (is_some b ≡ is_some p.first.setting.b) → (o : Option Word) → IsNameIfGiven o × (is_some o ≡ is_some p.first.setting.c)
+pub follows_c : (p : Schedule) (read : List Word) (a : Word) (b : Option Word) → SpellsPlan false p read → IsName a
+    → IsNameIfGiven b × (is_some b ≡ is_some p.first.setting.b) → (o : Option Word) → IsNameIfGiven o × (is_some o ≡ is_some p.first.setting.c)
     → (more : List Word) × Line read (read_b a b ++ (named (codes "C=") o ++ more))
 follows_c p read a b s name given o given' = (
   [],
@@ -82,14 +87,16 @@ follows_c p read a b s name given o given' = (
   }),
 )
 
-pub c_follows : (p : Schedule) (read : List Word) (a : Word) (b : Option Word) → SpellsPlan false p read → is_some b ≡ is_some p.first.setting.b → (ws : List Word) → Line read (read_b a b ++ ws) → BeginsWith (λ o. IsNameIfGiven o × (is_some o ≡ is_some p.first.setting.c)) (named (codes "C=")) ws
+pub c_follows : (p : Schedule) (read : List Word) (a : Word) (b : Option Word) → SpellsPlan false p read → is_some b ≡ is_some p.first.setting.b → (ws : List Word)
+    → Line read (read_b a b ++ ws) → BeginsWith (λ o. IsNameIfGiven o × (is_some o ≡ is_some p.first.setting.c)) (named (codes "C=")) ws
 c_follows p read a b s used ws f = (let n = names_follow p read a b s used ws f in (n.0, (n.1, n.2), [], n.3 ∙ sym (append-nil (named (codes "C=") n.0))))
 
 -- the end
 abbrev pub read_c : Word → Option Word → Option Word → List Word
 read_c a b c = read_b a b ++ named (codes "C=") c
 
-pub follows_end : (p : Schedule) (read : List Word) (a : Word) (b c : Option Word) → SpellsPlan false p read → IsName a → IsNameIfGiven b × (is_some b ≡ is_some p.first.setting.b) → IsNameIfGiven c × (is_some c ≡ is_some p.first.setting.c) → Line read (read_c a b c)
+pub follows_end : (p : Schedule) (read : List Word) (a : Word) (b c : Option Word) → SpellsPlan false p read → IsName a
+    → IsNameIfGiven b × (is_some b ≡ is_some p.first.setting.b) → IsNameIfGiven c × (is_some c ≡ is_some p.first.setting.c) → Line read (read_c a b c)
 follows_end p read a b c s name given given' =
     follows p read (names_words a b c) s (record { a = a; b = b; c = c; a_name = name; b_name = given.0; c_name = given'.0; b_used = given.1; c_used = given'.1; words_are = refl })
 
@@ -99,7 +106,8 @@ third_behind None (Some y) ws same e = absurd (cc)
 third_behind (Some x) None ws same e = absurd (cc)
 third_behind (Some x) (Some y) ws same e = same_tail e
 
-pub end_follows : (p : Schedule) (read : List Word) (a : Word) (b c : Option Word) → SpellsPlan false p read → is_some b ≡ is_some p.first.setting.b → is_some c ≡ is_some p.first.setting.c → (ws : List Word) → Line read (read_c a b c ++ ws) → ws ≡ []
+pub end_follows : (p : Schedule) (read : List Word) (a : Word) (b c : Option Word) → SpellsPlan false p read → is_some b ≡ is_some p.first.setting.b
+    → is_some c ≡ is_some p.first.setting.c → (ws : List Word) → Line read (read_c a b c ++ ws) → ws ≡ []
 end_follows p read a b c s used used' ws f =
     let n = names_follow p read a b s used (named (codes "C=") c ++ ws) (subst (Line read) (append_assoc (read_b a b) (named (codes "C=") c) ws) f) in
     third_behind c n.0 ws (used' ∙ sym n.2) n.3
@@ -127,7 +135,8 @@ no_name w (remux p a b c) not_remux not_code not_receive = not_remux
 no_name w (code p name) not_remux not_code not_receive = not_code
 no_name w (receive mode guard name) not_remux not_code not_receive = not_receive
 
-pub spells : (p : Schedule) (read : List Word) (a : Word) (b c : Option Word) (words : List Word) → SpellsPlan false p read → IsName a → IsNameIfGiven b × (is_some b ≡ is_some p.first.setting.b) → IsNameIfGiven c × (is_some c ≡ is_some p.first.setting.c)
+pub spells : (p : Schedule) (read : List Word) (a : Word) (b c : Option Word) (words : List Word) → SpellsPlan false p read → IsName a
+    → IsNameIfGiven b × (is_some b ≡ is_some p.first.setting.b) → IsNameIfGiven c × (is_some c ≡ is_some p.first.setting.c)
     → words ≡ read ++ read_c a b c → Spells (codes "remux" ∷ words) (remux p a b c)
 spells p read a b c words s name given given' e = record {
   command = record { plan = s.plan; a_name = name; b_name = given.0; c_name = given'.0; b_used = given.1; c_used = given'.1 };
@@ -161,22 +170,28 @@ same_names a a' b b' c c' used used' e =
 
 -- ---- a name where one is wanted
 
-name_wanted : (seat : Word) (used : Bool) (ws : List Word) → used ≡ true → BeginsWith IsName (λ name. (seat ++ name) ∷ []) ws → BeginsWith (λ o. IsNameIfGiven o × (is_some o ≡ used)) (named seat) ws
+name_wanted : (seat : Word) (used : Bool) (ws : List Word) → used ≡ true → BeginsWith IsName (λ name. (seat ++ name) ∷ []) ws
+    → BeginsWith (λ o. IsNameIfGiven o × (is_some o ≡ used)) (named seat) ws
 name_wanted seat used ws wanted b = (Some b.0, (b.1, sym wanted), b.2, b.3)
 
-wanted_name : (seat : Word) (used : Bool) (ws : List Word) → used ≡ true → BeginsWith (λ o. IsNameIfGiven o × (is_some o ≡ used)) (named seat) ws → BeginsWith IsName (λ name. (seat ++ name) ∷ []) ws
+wanted_name : (seat : Word) (used : Bool) (ws : List Word) → used ≡ true → BeginsWith (λ o. IsNameIfGiven o × (is_some o ≡ used)) (named seat) ws
+    → BeginsWith IsName (λ name. (seat ++ name) ∷ []) ws
 wanted_name seat used ws wanted (None, given, rest, e) = absurd (let bad = given.1 ∙ wanted in cc)
 wanted_name seat used ws wanted (Some name, given, rest, e) = (name, given.0, rest, e)
 
-pub name_if_stuck : (seat : Word) (used : Bool) → used ≡ true → (u : Unread) (place : ℕ) → IsStuck (BeginsWith IsName (λ name. (seat ++ name) ∷ [])) u place → IsStuck (BeginsWith (λ o. IsNameIfGiven o × (is_some o ≡ used)) (named seat)) u place
+pub name_if_stuck : (seat : Word) (used : Bool) → used ≡ true → (u : Unread) (place : ℕ) → IsStuck (BeginsWith IsName (λ name. (seat ++ name) ∷ [])) u place
+    → IsStuck (BeginsWith (λ o. IsNameIfGiven o × (is_some o ≡ used)) (named seat)) u place
 name_if_stuck seat used wanted u place s =
     stuck_behind (BeginsWith IsName (λ name. (seat ++ name) ∷ [])) (BeginsWith (λ o. IsNameIfGiven o × (is_some o ≡ used)) (named seat)) [] u u place (reads_none u) (λ ws b. name_wanted seat used ws wanted b) (λ ws b. wanted_name seat used ws wanted b) s
 
-pub given : (o : Option (Bor Word)) (used flag : Bool) → used ≡ flag → IsNameIfGiven (option_map (λ x. x.now) o) × (is_some o ≡ used) → IsNameIfGiven (option_map (λ x. x.now) o) × (is_some (option_map (λ x. x.now) o) ≡ flag)
+pub given : (o : Option (Bor Word)) (used flag : Bool) → used ≡ flag → IsNameIfGiven (option_map (λ x. x.now) o) × (is_some o ≡ used)
+    → IsNameIfGiven (option_map (λ x. x.now) o) × (is_some (option_map (λ x. x.now) o) ≡ flag)
 given None used flag same g = (g.0, g.1 ∙ same)
 given (Some x) used flag same g = (g.0, g.1 ∙ same)
 
-pub same_used : (seat : Word) (used flag : Bool) (u : Unread) (place : ℕ) → used ≡ flag → IsStuck (BeginsWith (λ o. IsNameIfGiven o × (is_some o ≡ used)) (named seat)) u place → IsStuck (BeginsWith (λ o. IsNameIfGiven o × (is_some o ≡ flag)) (named seat)) u place
+pub same_used : (seat : Word) (used flag : Bool) (u : Unread) (place : ℕ) → used ≡ flag
+    → IsStuck (BeginsWith (λ o. IsNameIfGiven o × (is_some o ≡ used)) (named seat)) u place
+    → IsStuck (BeginsWith (λ o. IsNameIfGiven o × (is_some o ≡ flag)) (named seat)) u place
 same_used seat used flag u place same s = subst (λ (x : Bool). IsStuck (BeginsWith (λ o. IsNameIfGiven o × (is_some o ≡ x)) (named seat)) u place) same s
 
 -- ---- the first word
@@ -208,7 +223,8 @@ no_command u v w place at reads not_remux not_code not_receive = record {
 
 -- the rule of a command's first word says it of all words
 pub whole_line : (first : Word) (list : List Word) (u v : Unread) (w : Word) (r : Result Parsed ℕ) → u ≡ record { place = 0; words = list } → Reads (w ∷ []) u v → w ≡ first
-    → MatchResult r (λ c. Spells (first ∷ v.words) (command_of c)) (λ place. IsStuck (Follows first) v place) → MatchResult r (λ c. Spells list (command_of c)) (λ place. IsFaultAt list place)
+    → MatchResult r (λ c. Spells (first ∷ v.words) (command_of c)) (λ place. IsStuck (Follows first) v place)
+    → MatchResult r (λ c. Spells list (command_of c)) (λ place. IsFaultAt list place)
 whole_line first list u v w (Ok c) from reads same says =
     let all : first ∷ v.words ≡ list = ap (λ x. x ∷ v.words) (sym same) ∙ sym reads.split ∙ ap (λ x. x.words) from in
     subst (λ (ws : List Word). Spells ws (command_of c)) all says

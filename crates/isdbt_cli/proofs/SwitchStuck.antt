@@ -38,7 +38,8 @@ behind_mode m false t ws rest e = absurd (no_setting m t.mode t.setting (same_he
 
 -- the first setting is accepted
 module _ (steady : Bool) (first : Parameters) (mode : Mode) (guard : Guard) (ok : IsAccepted first) where
-  is_change : (told : Bool) (m : Mode) (g : Guard) → (told ≡ false → (m ≡ mode) × (g ≡ guard)) → (steady ≡ true → (m ≡ mode) × (g ≡ guard)) → IsChange steady first mode guard (same_change told m g first)
+  is_change : (told : Bool) (m : Mode) (g : Guard) → (told ≡ false → (m ≡ mode) × (g ≡ guard)) → (steady ≡ true → (m ≡ mode) × (g ≡ guard))
+      → IsChange steady first mode guard (same_change told m g first)
   is_change told m g kept stays = record { accepted = ok; layers = (refl, refl); kept = kept; stays = stays }
 
   -- the guard interval behind a mode is none that may stand there
@@ -54,20 +55,23 @@ module _ (steady : Bool) (first : Parameters) (mode : Mode) (guard : Guard) (ok 
       → ((s : Parameters) → IsAccepted s → SameLayers first s → StartsWith (setting_word m s) v.words → ⊥) → IsStuck (Changes steady first mode guard) u p
   stuck_at_setting m g u v p r at never = go r.told r.reads r.kept r.next
     where
-      behind_told : (t : Transmission) (told : Bool) (ws rest : List Word) → IsAccepted t.setting → SameLayers first t.setting → mode_word m ∷ guard_word g ∷ ws ≡ (told_words told t.mode t.guard ++ setting_word t.mode t.setting ∷ []) ++ rest → take 1 ws ≡ take 1 v.words → ⊥
+      behind_told : (t : Transmission) (told : Bool) (ws rest : List Word) → IsAccepted t.setting → SameLayers first t.setting
+          → mode_word m ∷ guard_word g ∷ ws ≡ (told_words told t.mode t.guard ++ setting_word t.mode t.setting ∷ []) ++ rest → take 1 ws ≡ take 1 v.words → ⊥
       behind_told t true ws rest fine same e heads =
           let words : setting_word t.mode t.setting ≡ setting_word m t.setting = ap (λ n. setting_word n t.setting) (sym (mode_word-injective m t.mode (same_head e))) in
           never t.setting fine same (sym heads ∙ ap (take 1) (same_tail (same_tail e)) ∙ ap (λ (w : Word). w ∷ []) words)
       behind_told t false ws rest fine same e heads = no_setting m t.mode t.setting (same_head e)
 
-      behind_kept : (t : Transmission) (told : Bool) (ws rest : List Word) → IsAccepted t.setting → SameLayers first t.setting → (told ≡ false → IsIn mode guard t) → (steady ≡ true → IsIn mode guard t) → m ≡ mode → ((n : Mode) → (steady ≡ true → n ≡ mode) → StartsWith (mode_word n) v.words → ⊥)
+      behind_kept : (t : Transmission) (told : Bool) (ws rest : List Word) → IsAccepted t.setting → SameLayers first t.setting → (told ≡ false → IsIn mode guard t)
+          → (steady ≡ true → IsIn mode guard t) → m ≡ mode → ((n : Mode) → (steady ≡ true → n ≡ mode) → StartsWith (mode_word n) v.words → ⊥)
           → ws ≡ (told_words told t.mode t.guard ++ setting_word t.mode t.setting ∷ []) ++ rest → take 1 ws ≡ take 1 v.words → ⊥
       behind_kept t true ws rest fine same kept stays is next e heads = next t.mode (λ s. (stays s).0) (sym heads ∙ ap (take 1) e)
       behind_kept t false ws rest fine same kept stays is next e heads =
           let words : setting_word t.mode t.setting ≡ setting_word m t.setting = ap (λ n. setting_word n t.setting) ((kept refl).0 ∙ sym is) in
           never t.setting fine same (sym heads ∙ ap (take 1) e ∙ ap (λ (w : Word). w ∷ []) words)
 
-      go : (told : Bool) → Reads (told_words told m g) u v → (told ≡ false → (m ≡ mode) × (g ≡ guard)) → (told ≡ false → (n : Mode) → (steady ≡ true → n ≡ mode) → StartsWith (mode_word n) v.words → ⊥) → IsStuck (Changes steady first mode guard) u p
+      go : (told : Bool) → Reads (told_words told m g) u v → (told ≡ false → (m ≡ mode) × (g ≡ guard))
+          → (told ≡ false → (n : Mode) → (steady ≡ true → n ≡ mode) → StartsWith (mode_word n) v.words → ⊥) → IsStuck (Changes steady first mode guard) u p
       go true reads kept next =
           stuck_here (Changes steady first mode guard) (mode_word m ∷ guard_word g ∷ []) u v p reads at
           (setting_word m first ∷ [], (same_change true m g first, is_change true m g (λ e. absurd (cc)) r.same, [], refl))
@@ -110,14 +114,16 @@ alike_yes false b e = rw (← e) refl
 pub taken_layers : (p : Schedule) (frame : ℕ) (s : Parameters) → length p.switches < 7 → IsLater (last_start p) frame → switch_fault p frame s ≡ None → SameLayers p.first.setting s
 taken_layers p frame s room later e = same_layers p.first.setting s (no_layer (other_layer p.first.setting s) (sym (fault_is p frame s room later) ∙ e))
 
-pub refused_layers : (p : Schedule) (frame : ℕ) (s : Parameters) (fault : PlanFault) → length p.switches < 7 → IsLater (last_start p) frame → switch_fault p frame s ≡ Some fault → SameLayers p.first.setting s → ⊥
+pub refused_layers : (p : Schedule) (frame : ℕ) (s : Parameters) (fault : PlanFault) → length p.switches < 7 → IsLater (last_start p) frame
+    → switch_fault p frame s ≡ Some fault → SameLayers p.first.setting s → ⊥
 refused_layers p frame s fault room later e same =
     let none : switch_fault p frame s ≡ None = fault_is p frame s room later ∙ rw (alike_yes (is_some p.first.setting.b) (is_some s.b) same.0, alike_yes (is_some p.first.setting.c) (is_some s.c) same.1) refl in
     let bad : None ≡ Some fault = sym none ∙ e in cc
 
 -- ---- the place in the switch
 
-pub moved : (steady : Bool) (first : Parameters) (m n : Mode) (g h : Guard) (u : Unread) (place : ℕ) → m ≡ n → g ≡ h → IsStuck (Changes steady first m g) u place → IsStuck (Changes steady first n h) u place
+pub moved : (steady : Bool) (first : Parameters) (m n : Mode) (g h : Guard) (u : Unread) (place : ℕ) → m ≡ n → g ≡ h → IsStuck (Changes steady first m g) u place
+    → IsStuck (Changes steady first n h) u place
 moved steady first m n g h u place modes guards s = subst (λ x. IsStuck (Changes steady first x h) u place) modes (subst (λ x. IsStuck (Changes steady first m x) u place) guards s)
 
 -- the next word spells a setting, and no other one
@@ -134,7 +140,8 @@ pub record SwitchRead (steady : Bool) (b : At) (frame : ℕ) (t : Transmission) 
   pub setting_read : Reads (setting_word t.mode t.setting ∷ []) w x
 
 module _ (steady : Bool) (p : Schedule) (b : At) (last : IsLast p b) where
-  pub in_switch : (frame place : ℕ) (u v : Unread) → IsLater b.start frame × Reads (frame_word frame ∷ []) u v → IsStuck (Changes steady p.first.setting b.mode b.guard) v place → IsStuckInSwitch steady p u place
+  pub in_switch : (frame place : ℕ) (u v : Unread) → IsLater b.start frame × Reads (frame_word frame ∷ []) u v
+      → IsStuck (Changes steady p.first.setting b.mode b.guard) v place → IsStuckInSwitch steady p u place
   in_switch frame place u v took s = record {
     frame = frame;
     behind = v;
@@ -143,7 +150,8 @@ module _ (steady : Bool) (p : Schedule) (b : At) (last : IsLast p b) where
     stuck = moved steady p.first.setting b.mode (last_sent p).mode b.guard (last_sent p).guard v place last.mode last.guard s;
   }
 
-  pub adds_switch : (q : Schedule) (frame : ℕ) (t : Transmission) (u x : Unread) → length p.switches < 7 → SwitchRead steady b frame t u x → (switch_fault p frame t.setting ≡ None) × (q ≡ with_switch p (record { frame = frame; after = t })) → AddsSwitch steady p q u x
+  pub adds_switch : (q : Schedule) (frame : ℕ) (t : Transmission) (u x : Unread) → length p.switches < 7 → SwitchRead steady b frame t u x
+      → (switch_fault p frame t.setting ≡ None) × (q ≡ with_switch p (record { frame = frame; after = t })) → AddsSwitch steady p q u x
   adds_switch q frame t u x room r taken =
       let later : IsLater (last_start p) frame = subst (λ n. IsLater n frame) last.start r.frame_read.0 in
       let m = r.mode_read in
