@@ -35,9 +35,12 @@ measure() {
 one=A:13:qpsk:1/2:0
 full=A:13:64qam:7/8:0
 three=A:1:qpsk:2/3:4:partial,B:4:16qam:3/4:2,C:8:64qam:7/8:1
+other=A:1:qpsk:2/3:0:partial,B:4:16qam:3/4:0,C:8:64qam:7/8:0
+seven="$three @40 $other @80 $three @120 $other @160 $three @200 $other @240 $three @280 $other"
 
 measure "remux, mode 1, one layer" 261120 64.26 "$top/isdbt" remux 1 1/4 $one A="$folder/in.ts"
 measure "remux, mode 3, three layers" 940032 231.336 "$top/isdbt" remux 3 1/8 $three A=/dev/null B="$folder/in.ts" C="$folder/in.ts"
+measure "remux, mode 3, three layers, seven switches" 940032 231.336 "$top/isdbt" remux 3 1/8 $seven A=/dev/null B="$folder/in.ts" C="$folder/in.ts"
 
 head -c $((188 * 4000 * 40)) "$folder/in.ts" >"$folder/part.ts"
 "$top/isdbt" remux 1 1/4 $one A="$folder/part.ts" >"$folder/one.bts"

@@ -9,7 +9,7 @@ use crate::plans::{PlanRow, SINGLE, plan_of};
 use crate::streams::marked_packets;
 use coder_core::{CodeFault, code};
 use edge_io::{MemoryShelf, MemorySink, Seat, Shelf};
-use isdbt_base::{Guard, Mode};
+use isdbt_base::{Guard, Mode, Plan};
 use remux_core::{RemuxFault, remux};
 use seg_receiver::{ReceiveFault, receive};
 use std::alloc::Global;
@@ -53,28 +53,54 @@ fn left_at(alloc: Global, shelf: &mut MemoryShelf, seat: Seat, most: usize) -> R
     Ok(shelf.read(seat, &mut rest)?)
 }
 
-/// Remultiplexes the packets of layers A, B and C with a limit on frames.
-pub fn remux_within(
+/// The inputs of layers A, B and C, and the byte of A's from which on a read fails.
+#[derive(Clone, Copy)]
+pub struct LayerInputs<'a> {
+    pub layers: [&'a [u8]; 3],
+    pub fails_from: u64,
+}
+
+/// Remultiplexes inputs by a plan with a limit on frames.
+pub fn remux_plan(
     alloc: Global,
-    row: &PlanRow,
-    inputs: [&[u8]; 3],
+    plan: &Plan,
+    inputs: &LayerInputs,
     limit: u32,
     mut out: MemorySink,
 ) -> Result<RemuxEnd, Fail>
     requires some { 0 < limit }
     requires few { limit ≤ 16777216 }
 {
-    let plan = plan_of(row)?;
+    let layers = inputs.layers;
     let mut shelf = MemoryShelf::new(alloc);
-    shelf.put("a", inputs[0])?;
-    shelf.put("b", inputs[1])?;
-    shelf.put("c", inputs[2])?;
+    shelf.put("a", layers[0])?;
+    shelf.put("b", layers[1])?;
+    shelf.put("c", layers[2])?;
+    shelf.fail_from(Seat::A, inputs.fails_from);
     shelf.open(Seat::A, "a")?;
     shelf.open(Seat::B, "b")?;
     shelf.open(Seat::C, "c")?;
-    let answer = remux(alloc, &plan, limit, &mut shelf, &mut out);
-    let left = left_at(alloc, &mut shelf, Seat::A, inputs[0].len())?;
+    let answer = remux(alloc, plan, limit, &mut shelf, &mut out);
+    let left = left_at(alloc, &mut shelf, Seat::A, layers[0].len())?;
     Ok(RemuxEnd { answer, out, left })
+}
+
+/// Remultiplexes the packets of layers A, B and C with a limit on frames.
+pub fn remux_within(
+    alloc: Global,
+    row: &PlanRow,
+    layers: [&[u8]; 3],
+    limit: u32,
+    out: MemorySink,
+) -> Result<RemuxEnd, Fail>
+    requires some { 0 < limit }
+    requires few { limit ≤ 16777216 }
+{
+    let inputs = LayerInputs {
+        layers,
+        fails_from: u64::MAX,
+    };
+    remux_plan(alloc, &plan_of(row)?, &inputs, limit, out)
 }
 
 /// A shelf of which the lone input is this stream.
@@ -87,18 +113,27 @@ fn lone_shelf(alloc: Global, stream: &[u8]) -> Result<MemoryShelf, Fail>
     Ok(shelf)
 }
 
+/// Codes a stream of broadcast packets by a plan.
+pub fn code_plan(
+    alloc: Global,
+    plan: &Plan,
+    stream: &[u8],
+    mut out: MemorySink,
+) -> Result<CodeEnd, Fail> {
+    let mut shelf = lone_shelf(alloc, stream)?;
+    let answer = code(alloc, plan, LIMIT, &mut shelf, &mut out);
+    let left = left_at(alloc, &mut shelf, Seat::In, stream.len())?;
+    Ok(CodeEnd { answer, out, left })
+}
+
 /// Codes a stream of broadcast packets.
 pub fn code_into(
     alloc: Global,
     row: &PlanRow,
     stream: &[u8],
-    mut out: MemorySink,
+    out: MemorySink,
 ) -> Result<CodeEnd, Fail> {
-    let plan = plan_of(row)?;
-    let mut shelf = lone_shelf(alloc, stream)?;
-    let answer = code(alloc, &plan, LIMIT, &mut shelf, &mut out);
-    let left = left_at(alloc, &mut shelf, Seat::In, stream.len())?;
-    Ok(CodeEnd { answer, out, left })
+    code_plan(alloc, &plan_of(row)?, stream, out)
 }
 
 /// Receives a stream of cells.

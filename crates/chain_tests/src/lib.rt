@@ -7,6 +7,10 @@ mod code_tests;
 #[cfg(test)]
 mod commands;
 #[cfg(test)]
+mod epoch_rows;
+#[cfg(test)]
+mod epoch_tests;
+#[cfg(test)]
 mod model_rows;
 #[cfg(test)]
 mod model_tests;

@@ -1,10 +1,11 @@
-//! The cells that `code` writes against those of the second coder, for twelve settings of all kinds, and known values of its
-//! parts.
+//! The cells that `code` writes against those of the second coder, for twelve settings of all kinds, alone and one behind the
+//! other, and known values of its parts.
 
-use crate::commands::{coded, remuxed};
+use crate::commands::{ROOM, code_plan, coded, remuxed};
 use crate::model_rows::{CellRow, DEEP_LAYERS, MODE_2, MODE_3, SHALLOW};
-use crate::plans::LayerRow;
+use crate::plans::{LayerRow, SwitchRow, plan_with};
 use crate::streams::check;
+use edge_io::MemorySink;
 use isdbt_base::{DepthCode, Modulation, Rate};
 use model_coder::{
     Difference, LayerScale, OuterCode, Scale, add_layer, coded_bits, dispersal, first_difference,
@@ -122,32 +123,88 @@ fn model_cells(alloc: Global, row: &CellRow, stream: &[u8]) -> Result<Vec<u8>, F
     Ok(cells)
 }
 
-/// The first difference in each layer, and how many cells are not of zero bits.
-fn compared(alloc: Global, row: &CellRow) -> Result<([Option<Difference>; 3], usize), Fail> {
-    let stream = stream_of(alloc, row)?;
-    let (frames, out) = coded(alloc, &row.plan, &stream)?;
-    let size = row
-        .carriers
-        .wrapping_mul(26)
-        .wrapping_add(1)
-        .wrapping_mul(204);
-    if frames as usize != row.frames || out.bytes().len() != size.wrapping_mul(row.frames) {
-        return Err(Fail::from("another count of frames"));
-    }
-    let cells = model_cells(alloc, row, &stream)?;
-    let found = |layer| first_difference(&scale_of(row, layer), &cells, out.bytes());
+/// Bytes of the cells of a row's frames.
+fn size_of(row: &CellRow) -> usize {
+    let symbol = row.carriers.wrapping_mul(26).wrapping_add(1);
+    symbol.wrapping_mul(204).wrapping_mul(row.frames)
+}
+
+/// The first difference in each layer between the cells of a row's stream by the closed formulas and those written, and how
+/// many cells are not of zero bits.
+fn differences(
+    alloc: Global,
+    row: &CellRow,
+    stream: &[u8],
+    written: &[u8],
+) -> Result<([Option<Difference>; 3], usize), Fail> {
+    let cells = model_cells(alloc, row, stream)?;
+    let found = |layer| first_difference(&scale_of(row, layer), &cells, written);
     let others = cells.iter().filter(|cell| **cell != 0).count();
     Ok(([found(0), found(1), found(2)], others))
 }
 
-/// Compares the cells of rows. Each has cells that are not of zero bits.
+/// Compares the cells of a row's stream with those written, of which some are not of zero bits.
+fn check_cells(
+    rt: &impl Abort,
+    alloc: Global,
+    row: &CellRow,
+    stream: &[u8],
+    written: &[u8],
+) -> Result<(), Fail> {
+    check(rt, written.len() == size_of(row));
+    let (found, others) = differences(alloc, row, stream, written)?;
+    check(rt, found == [None, None, None]);
+    check(rt, others > 20_000);
+    Ok(())
+}
+
+/// Compares the cells of rows.
 fn compare(rt: &impl Abort, alloc: Global, rows: &[CellRow]) -> Result<(), Fail> {
     for row in rows {
-        let (found, others) = compared(alloc, row)?;
-        check(rt, found == [None, None, None]);
-        check(rt, others > 20_000);
+        let stream = stream_of(alloc, row)?;
+        let (frames, out) = coded(alloc, &row.plan, &stream)?;
+        check(rt, frames as usize == row.frames);
+        check_cells(rt, alloc, row, &stream, out.bytes())?;
     }
     Ok(())
+}
+
+/// Compares the cells of two rows' frames, coded one row behind the other by a plan that switches between them: each row's
+/// frames have the cells that they have alone.
+fn compare_over_a_switch(
+    rt: &impl Abort,
+    alloc: Global,
+    first: &CellRow,
+    second: &CellRow,
+) -> Result<(), Fail> {
+    let front = stream_of(alloc, first)?;
+    let back = stream_of(alloc, second)?;
+    let switch = SwitchRow {
+        frame: first.frames as u32,
+        to: second.plan,
+    };
+    let plan = plan_with(&first.plan, &[switch])?;
+    let mut stream = front.as_slice().to_vec(alloc)?;
+    stream.extend_from_slice(&back)?;
+    let ended = code_plan(alloc, &plan, &stream, MemorySink::new(alloc, ROOM)?)?;
+    check(
+        rt,
+        ended.answer == Ok(first.frames.wrapping_add(second.frames) as u32),
+    );
+    let Some((before, behind)) = ended.out.bytes().split_at_checked(size_of(first)) else {
+        return Err(Fail::from("too few cells"));
+    };
+    check_cells(rt, alloc, first, &front, before)?;
+    check_cells(rt, alloc, second, &back, behind)
+}
+
+/// In one mode, from mode 2 to 3, and from mode 2 to 1.
+#[test]
+fn cells_over_switches(rt: HostRuntime) -> Result<(), Fail> {
+    let alloc = rt.alloc();
+    compare_over_a_switch(&rt, alloc, &SHALLOW[1], &SHALLOW[3])?;
+    compare_over_a_switch(&rt, alloc, &MODE_2[0], &MODE_3[0])?;
+    compare_over_a_switch(&rt, alloc, &MODE_2[2], &SHALLOW[0])
 }
 
 #[test]

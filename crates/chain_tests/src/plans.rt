@@ -1,6 +1,4 @@
-//! Plans of one setting, as rows of tables.
-
-ghost use Rattle.std.specs.Prelude.{◌≡◌, [], IfOk};
+//! Plans as rows of tables.
 
 use isdbt_base::{DepthCode, Guard, LayerSetting, Mode, Modulation, Plan, Rate, Setting};
 use std::test::Fail;
@@ -104,13 +102,32 @@ fn layer_at(row: &PlanRow, place: usize) -> Result<Option<LayerSetting>, Fail> {
     }
 }
 
-/// The plan of a row.
-pub fn plan_of(row: &PlanRow) -> Result<Plan, Fail>
-    ensures { IfOk result (λ plan. plan.switches ≡ []) }
-{
+/// The setting of a row.
+fn setting_of(row: &PlanRow) -> Result<Setting, Fail> {
     let Some(a) = layer_at(row, 0)? else {
         return Err(Fail::from("no layer A"));
     };
-    let setting = Setting::new(row.is_partial, a, layer_at(row, 1)?, layer_at(row, 2)?)?;
-    Ok(Plan::new(row.mode, row.guard, setting))
+    Ok(Setting::new(row.is_partial, a, layer_at(row, 1)?, layer_at(row, 2)?)?)
+}
+
+/// The plan of a row.
+pub fn plan_of(row: &PlanRow) -> Result<Plan, Fail> {
+    Ok(Plan::new(row.mode, row.guard, setting_of(row)?))
+}
+
+/// From this frame on a plan sends what the row says.
+#[derive(Clone, Copy)]
+pub struct SwitchRow {
+    pub frame: u32,
+    pub to: PlanRow,
+}
+
+/// The plan of a row, with switches behind it.
+pub fn plan_with(row: &PlanRow, switches: &[SwitchRow]) -> Result<Plan, Fail> {
+    let mut plan = plan_of(row)?;
+    for switch in switches {
+        let to = &switch.to;
+        plan.add_switch_at(switch.frame, to.mode, to.guard, setting_of(to)?)?;
+    }
+    Ok(plan)
 }

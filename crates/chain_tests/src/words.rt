@@ -25,7 +25,7 @@ pub struct Change {
 }
 
 /// The word of a frame of cells.
-fn word_at(cells: &[u8], frame: usize) -> [bool; 204] {
+pub fn word_at(cells: &[u8], frame: usize) -> [bool; 204] {
     let mut word = [false; 204];
     let symbols = frame_at(cells, CELLS, frame).chunks_exact(SYMBOL);
     for (bit, symbol) in word.iter_mut().zip(symbols) {

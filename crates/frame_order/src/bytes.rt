@@ -4,7 +4,7 @@ ghost use Rattle.std.specs.Prelude.{◌≡◌, ◌+◌, ◌*◌, ◌%◌, ◌≤
 ghost use Rattle.std.specs.Option.{option_map};
 ghost use Rattle.isdbt_base.specs.Numbers.{slots_per_frame};
 ghost use Rattle.ts_packet.specs.Packets.{null_packet, piece_or_null, packet_bytes};
-ghost use Rattle.frame_order.specs.OrderedFrame.{marked_packet, ordered_frame};
+ghost use Rattle.frame_order.specs.OrderedFrame.{marked_packet, unmarked_packet, ordered_frame};
 ghost use Rattle.frame_order.specs.LayerBytes.{layer_bytes, layer_packet, AreWhole};
 
 use crate::frame_order::FrameOrder;
@@ -18,19 +18,19 @@ use ts_packet::{PACKET_BYTES, Packet};
 const STUFFING: [u8; 8] = [0xFF; 8];
 
 impl FrameOrder {
-    /// Writes the broadcast packets of the frame, 204 bytes for each slot in their order: the slot's packet, or the null
-    /// packet where no layer has the slot or the layer has fewer packets; the information of the slot; and eight bytes FF.
-    /// `out` has just these bytes' room.
-    pub fn write(&self, tag: &FrameTag, packets: &LayerPackets, out: &mut [u8])
+    /// Writes the broadcast packets of the frame, 204 bytes for each slot in their order: the slot's packet, which is
+    /// `first` in slot 0, and the null packet where else no layer has the slot or the layer has fewer packets; the
+    /// information of the slot; and eight bytes FF. `out` has just these bytes' room.
+    pub fn write(&self, tag: &FrameTag, first: &Packet, packets: &LayerPackets, out: &mut [u8])
         requires whole { AreWhole packets.now }
         requires room { length out.old ≡ 204 * slots_per_frame self.now.mode self.now.guard }
-        ensures { out.new ≡ ordered_frame self.now.mode self.now.guard self.now.setting tag.now (layer_packet packets.now) }
+        ensures { out.new ≡ ordered_frame self.now.mode self.now.guard self.now.setting tag.now first.now (layer_packet packets.now) }
     {
         let null = Packet::null();
         let mut at = 0;
         for slot in 0..self.slot_count() {
             let mark = self.mark(slot);
-            at = put_packet(out, at, mark, packets, &null);
+            at = put_packet(out, at, slot, mark, first, packets, &null);
             let info = to_bytes(&info_of(tag, layer_of(mark), slot));
             at = put(out, at, &info);
             at = put(out, at, &STUFFING);
@@ -71,21 +71,14 @@ fn piece_of(bytes: &[u8], index: u32) -> Option<&[u8]>
     }
 }
 
-/// The packet that a mark names, or None where that is the null packet.
-fn packet_of<'a>(mark: Option<Mark>, packets: &LayerPackets<'a>) -> Option<&'a [u8]>
-    requires { AreWhole packets.now }
-    ensures { MatchOption result (marked_packet (layer_packet packets.now) mark ≡ null_packet)
-        (λ p. (p.now ≡ marked_packet (layer_packet packets.now) mark) × (length p.now ≡ packet_bytes)) }
-{
-    let mark = mark?;
-    piece_of(bytes_of(packets, mark.layer), mark.index)
-}
-
-/// Puts the packet that a mark names behind the first `at` bytes, and says where it ends.
+/// Puts the packet of a slot behind the first `at` bytes, and says where it ends: the packet that the mark names, which
+/// is the null packet past the layer's last; and without a mark `first` in slot 0, and else the null packet.
 fn put_packet(
     out: &mut [u8],
     at: usize,
+    slot: u32,
     mark: Option<Mark>,
+    first: &Packet,
     packets: &LayerPackets,
     null: &Packet,
 ) -> usize
@@ -93,10 +86,14 @@ fn put_packet(
     requires null { null.now ≡ null_packet }
     requires room { at + packet_bytes ≤ length out.old }
     ensures end { result ≡ at + packet_bytes }
-    ensures bytes { take result out.new ≡ take at out.old ++ marked_packet (layer_packet packets.now) mark }
+    ensures bytes { take result out.new ≡ take at out.old ++ marked_packet (unmarked_packet first.now slot) (layer_packet packets.now) mark }
 {
-    match packet_of(mark, packets) {
-        Some(packet) => put(out, at, packet),
+    match mark {
+        Some(mark) => match piece_of(bytes_of(packets, mark.layer), mark.index) {
+            Some(packet) => put(out, at, packet),
+            None => put(out, at, null.bytes()),
+        },
+        None if slot == 0 => put(out, at, first.bytes()),
         None => put(out, at, null.bytes()),
     }
 }

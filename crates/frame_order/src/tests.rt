@@ -10,6 +10,7 @@ use isdbt_base::{DepthCode, Guard, Layer, LayerSetting, Mode, Modulation, Rate, 
 use std::alloc::Global;
 use std::process::Abort;
 use std::test::Fail;
+use ts_packet::Packet;
 
 fn layer(
     segments: u32,
@@ -115,13 +116,14 @@ fn written(
     alloc: Global,
     frame: &FrameOrder,
     tag: &FrameTag,
+    first: &Packet,
     packets: &LayerPackets,
 ) -> Result<Vec<u8>, Fail>
     requires { AreWhole packets.now }
 {
     let mut out = Vec::new(alloc);
     out.resize(204 * frame.slot_count() as usize, 0)?;
-    frame.write(tag, packets, &mut out);
+    frame.write(tag, first, packets, &mut out);
     Ok(out)
 }
 
@@ -148,7 +150,7 @@ fn first_packet_out(rt: HostRuntime) -> Result<(), Fail> {
         b: &[],
         c: &[],
     };
-    let out = written(rt.alloc(), &frame, &tag, &packets)?;
+    let out = written(rt.alloc(), &frame, &tag, &Packet::null(), &packets)?;
     assert_eq!(rt; out.len(), 1280 * 204);
     expect_slot(&rt, &out, 0, &null(), [0xA6, 0x0F, 0xE0, 0x00])?;
     expect_slot(&rt, &out, 7, &null(), [0xA0, 0x0F, 0xE0, 0x07])?;
@@ -192,9 +194,11 @@ fn layers_with_too_few_packets(rt: HostRuntime) -> Result<(), Fail> {
         b: &[],
         c: &[],
     };
-    let out = written(rt.alloc(), &frame, &tag, &packets)?;
+    let first = Packet::read(&numbered(250))?;
+    let out = written(rt.alloc(), &frame, &tag, &first, &packets)?;
     assert_eq!(rt; out.len(), 4608 * 204);
-    expect_slot(&rt, &out, 0, &null(), [0xAB, 0x03, 0xE0, 0x00])?;
+    expect_slot(&rt, &out, 0, &numbered(250), [0xAB, 0x03, 0xE0, 0x00])?;
+    expect_slot(&rt, &out, 1, &null(), [0xA9, 0x03, 0xE0, 0x01])?;
     expect_slot(&rt, &out, 2, &null(), [0xA9, 0x23, 0xE0, 0x02])?;
     expect_slot(&rt, &out, 68, &numbered(9), [0xA9, 0x13, 0xE0, 0x44])?;
     assert_eq!(rt; named_slots(&rt, &out, 4608, Some(Layer::A))?, 64);

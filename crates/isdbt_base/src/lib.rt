@@ -34,4 +34,6 @@ pub use plan::Plan;
 pub use setting::{Setting, SettingFault};
 
 #[cfg(test)]
+mod plan_tests;
+#[cfg(test)]
 mod tests;

@@ -1,13 +1,14 @@
 //! Tables of the standard and worked settings.
 
 use crate::{
-    At, DepthCode, Guard, HeadFault, Layer, LayerSetting, Mode, Modulation, Plan, Rate, Setting,
+    DepthCode, Guard, HeadFault, Layer, LayerSetting, Mode, Modulation, Rate, Setting,
     SettingFault, adjust_of, bits_per_cell, carriers, depth_of, frames_over, head_of, put,
     rate_pair, read_head, slots, symbol_clocks, symbol_size, zeros,
 };
 use std::test::Fail;
 
-fn layer(
+/// The parameters of a layer that a test knows to be accepted.
+pub fn layer(
     segments: u32,
     modulation: Modulation,
     rate: Rate,
@@ -187,17 +188,6 @@ fn two_layers(rt: HostRuntime) -> Result<(), Fail> {
     assert_eq!(rt; setting.cells(Layer::B, Mode::M3), 4608);
     assert_eq!(rt; setting.cells(Layer::C, Mode::M3), 0);
     assert_eq!(rt; symbol_size(Mode::M3), 9985);
-    let plan = Plan::new(Mode::M3, Guard::G8, setting);
-    let wanted = At {
-        mode: Mode::M3,
-        guard: Guard::G8,
-        setting,
-        start: 0,
-        end: None,
-        next: None,
-        countdown: 15,
-    };
-    assert_eq!(rt; plan.at(16_777_215), wanted);
     Ok(())
 }
 

@@ -1,9 +1,13 @@
+pub mod Layers
 pub mod Places
 pub mod Parts
-pub mod Readings
-pub mod Refusing
 pub mod PacketFaults
 pub mod Placing
-pub mod Progress
+pub mod Readings
+pub mod Refusing
 pub mod Made
+pub mod Progress
+pub mod Standing
 pub mod Draining
+pub mod Asks
+pub mod EpochSteps

@@ -1,33 +1,27 @@
--- The places of input packets in the frames of a plan without switches.
-use Rattle.std.proofs.Common.{◌≡◌, ℕ, zero, suc, ◌+◌, ◌-◌, ◌*◌, ◌/◌, ◌%◌, ◌≤◌, ◌<◌, min, [], None, Some, refl, ap, ◌∙◌, subst, arith, inl, inr}
-use Rattle.std.specs.Prelude.{sum_by, ◌==◌, if◌then◌else◌}
+-- The places of input packets in the frames of a plan.
+use Rattle.std.proofs.Common.{◌≡◌, ℕ, zero, suc, ◌+◌, ◌-◌, ◌*◌, ◌/◌, ◌%◌, ◌≤◌, ◌<◌, min, Bool, [], None, Some, Option, refl, sym, ap, ◌∙◌, subst, arith, inl, inr}
+use Rattle.std.specs.Prelude.{sum_by, ◌==◌, if◌then◌else◌, is_some}
 use Rattle.std.specs.List.{range_with_len}
 use Rattle.std.specs.Int.{div_ceil}
 use Rattle.std.proofs.lemmas.List.Sums.{sum_by-cons}
 use Rattle.std.proofs.lemmas.Nat.{div-add-mod', mod_below}
-use Rattle.std.proofs.lemmas.Bool.{cases_lt, ne_eqb, eq-eqb}
+use Rattle.std.proofs.lemmas.Bool.{cases_lt, cases_Bool, ne_eqb, eq-eqb}
 use Rattle.std.proofs.Math.Nat.{mul-le-mul_right}
-use Rattle.isdbt_base.specs.declared.kinds.Mode.{Mode}
-use Rattle.isdbt_base.specs.declared.kinds.Mode.TheVariants.{M1, M2, M3}
 use Rattle.isdbt_base.specs.declared.kinds.Layer.{Layer}
 use Rattle.isdbt_base.specs.declared.kinds.Layer.TheVariants.{A, B, C}
 use Rattle.isdbt_base.specs.declared.epoch.At.{At}
 use Rattle.isdbt_base.specs.LayerParameters.{LayerParameters, HasSegments}
 use Rattle.isdbt_base.specs.Parameters.{Parameters, IsAccepted, HasSegmentsIfUsed, layer_of, number_of}
-use Rattle.isdbt_base.proofs.NumberLaws.{packets-least, packets-most}
+use Rattle.isdbt_base.proofs.NumberLaws.{packets-least}
 use Rattle.isdbt_base.proofs.OptionLaws.{option_cases}
-use Rattle.isdbt_base.specs.Numbers.{greatest_delay, packets_per_frame}
-use Rattle.isdbt_base.specs.Plans.{Schedule, at_frame, in_epoch}
-use Rattle.isdbt_base.specs.Epochs.{last_start, last_sent}
+use Rattle.isdbt_base.specs.Numbers.{greatest_delay, packets_per_frame, layer_delay}
+use Rattle.isdbt_base.specs.Plans.{Transmission, Schedule, IsPlan, SameLayers, at_frame}
+use Rattle.isdbt_base.specs.Epochs.{last_start, last_sent, leaves_after}
+use Rattle.isdbt_base.proofs.PlanEpochs.{setting_accepted}
+use Rattle.isdbt_base.proofs.EpochLaws.{last_epoch, layers_alike, greatest-covers}
 use Rattle.remux_core.specs.Multiplex.{filled, placed_before, data_frames_of, data_frames, frame_count}
-use Rattle.remux_core.specs.Frames.{packets_of}
-use Rattle.remux_core.specs.Answers.{IsPlain}
-
-pub at_frame-one : (p : Schedule) (f : ℕ) → p.switches ≡ [] → at_frame p f ≡ in_epoch p.first 0 [] f
-at_frame-one p f none = rw none refl
-
-pub filled-one : (p : Schedule) (x : Layer) (f : ℕ) → p.switches ≡ [] → filled p x f ≡ packets_of p.first x
-filled-one p x f none = rw none refl
+use Rattle.remux_core.specs.Wanted.{filled_at}
+use Rattle.remux_core.specs.Frames.{packets_of, sent_at, most_packets}
 
 sum_range-suc : (g : ℕ → ℕ) (a n : ℕ) → sum_by g (range_with_len a (suc n)) ≡ sum_by g (range_with_len a n) + g (a + n)
 sum_range-suc g a zero = sum_by-cons g a [] ∙ ap (λ m. g m + 0) (let e : a ≡ a + 0 = omega arith in e) ∙ (let none : sum_by g (range_with_len a 0) ≡ 0 = refl in omega (arith, none))
@@ -45,19 +39,122 @@ pub placed_before-zero : (p : Schedule) (x : Layer) → placed_before p x 0 ≡ 
 unfolding placed_before
 placed_before-zero p x = refl
 
-pub placed_before-one : (p : Schedule) (x : Layer) (f : ℕ) → p.switches ≡ [] → placed_before p x f ≡ f * packets_of p.first x
-placed_before-one p x zero none = placed_before-zero p x ∙ (let e : 0 ≡ 0 * packets_of p.first x = omega arith in e)
-placed_before-one p x (suc f) none =
-    placed_before-suc p x f
-    ∙ (let a = placed_before-one p x f none in let b = filled-one p x f none in omega (arith, a, b))
+-- a frame places what stands between the places before it and before the next
+pub placed_before-next : (p : Schedule) (x : Layer) (f : ℕ) → placed_before p x (f + 1) ≡ placed_before p x f + filled p x f
+placed_before-next p x f = ap (placed_before p x) (let e : f + 1 ≡ suc f = omega arith in e) ∙ placed_before-suc p x f
 
--- ---- the last epoch is the only one
+pub placed_before-rise : (p : Schedule) (x : Layer) (f g : ℕ) → f ≤ g → placed_before p x f ≤ placed_before p x g
+placed_before-rise p x f zero le = (let e : f ≡ 0 = omega (arith, le) in rw e (omega arith))
+placed_before-rise p x f (suc g) le =
+    elim (cases_lt f (suc g)) [
+      | inl less ↦ (let k = placed_before-rise p x f g (omega (arith, less)) in let s = placed_before-suc p x g in omega (arith, k, s))
+      | inr ge ↦ (let e : f ≡ suc g = omega (arith, le, ge) in rw e (omega arith))
+    ]
 
-pub last_start-one : (p : Schedule) → p.switches ≡ [] → last_start p ≡ 0
-last_start-one p none = rw none refl
+-- ---- how many packets a frame places
 
-pub last_sent-one : (p : Schedule) → p.switches ≡ [] → last_sent p ≡ p.first
-last_sent-one p none = rw none refl
+part_le : (keep : LayerParameters → Bool) (n : LayerParameters → ℕ) (o : Option LayerParameters) → number_of (λ l. if keep l then n l else 0) o ≤ number_of n o
+part_le keep n None = omega arith
+part_le keep n (Some l) = elim (cases_Bool (keep l)) [ inl e ↦ rw e (omega arith) | inr e ↦ rw e (omega arith) ]
+
+pub filled-at : (p : Schedule) (x : Layer) (f : ℕ) → filled p x f ≤ packets_of (sent_at p f) x
+filled-at p x f = part_le (λ l. leaves_after f (at_frame p f).end (layer_delay (at_frame p f).mode l)) (packets_per_frame (at_frame p f).mode) (layer_of (at_frame p f).setting x)
+
+pub filled-most : (p : Schedule) (x : Layer) (f : ℕ) → filled p x f ≤ most_packets p x
+filled-most p x f =
+    let a = filled-at p x f in
+    let b = greatest-covers (λ t. number_of (packets_per_frame t.mode) (layer_of t.setting x)) p f in
+    omega (arith, a, b)
+
+pub placed_before-few : (p : Schedule) (x : Layer) (f : ℕ) → most_packets p x ≤ 3276 → placed_before p x f ≤ f * 3276
+placed_before-few p x zero most = (let e = placed_before-zero p x in omega (arith, e))
+placed_before-few p x (suc f) most =
+    let s = placed_before-suc p x f in
+    let a = filled-most p x f in
+    let k = placed_before-few p x f most in
+    omega (arith, s, a, k, most)
+
+-- ---- used layers
+
+pub packets-used : (t : Transmission) (x : Layer) (l : LayerParameters) → layer_of t.setting x ≡ Some l → packets_of t x ≡ packets_per_frame t.mode l
+packets-used t x l e = rw e refl
+
+pub packets-unused : (t : Transmission) (x : Layer) → layer_of t.setting x ≡ None → packets_of t x ≡ 0
+packets-unused t x e = rw e refl
+
+has_segments : (s : Parameters) (x : Layer) (l : LayerParameters) → IsAccepted s → layer_of s x ≡ Some l → HasSegments l
+has_segments s A l h e = subst HasSegmentsIfUsed e h.a_segments
+has_segments s B l h e = subst HasSegmentsIfUsed e h.b_segments
+has_segments s C l h e = subst HasSegmentsIfUsed e h.c_segments
+
+-- a used layer has packets
+pub some_packets : (t : Transmission) (x : Layer) (l : LayerParameters) → IsAccepted t.setting → layer_of t.setting x ≡ Some l → 0 < packets_of t x
+some_packets t x l accepted e =
+    let least = packets-least t.mode l (has_segments t.setting x l accepted e) in
+    let is = packets-used t x l e in
+    omega (arith, least, is)
+
+pub unused-none : (t : Transmission) (x : Layer) → IsAccepted t.setting → packets_of t x ≡ 0 → layer_of t.setting x ≡ None
+unused-none t x accepted empty =
+    elim (option_cases (layer_of t.setting x)) [
+      | inl none ↦ none
+      | inr used ↦ absurd (let some = some_packets t x used.0 accepted used.1 in omega (arith, some, empty))
+    ]
+
+-- a layer is used where it has packets
+pub used-some : (t : Transmission) (x : Layer) → 0 < packets_of t x → (l : LayerParameters) × (layer_of t.setting x ≡ Some l)
+used-some t x some =
+    elim (option_cases (layer_of t.setting x)) [
+      | inl none ↦ absurd (let e = packets-unused t x none in omega (arith, e, some))
+      | inr used ↦ used
+    ]
+
+none_alike : (a b : Option LayerParameters) → is_some a ≡ is_some b → a ≡ None → b ≡ None
+none_alike None None h e = refl
+none_alike None (Some l) h e = absurd (cc)
+none_alike (Some l) b h e = absurd (cc)
+
+pub layers_none : (s u : Parameters) (x : Layer) → SameLayers s u → layer_of s x ≡ None → layer_of u x ≡ None
+layers_none s u A h e = absurd (cc)
+layers_none s u B h e = none_alike s.b u.b h.0 e
+layers_none s u C h e = none_alike s.c u.c h.1 e
+
+-- a layer is used in all frames or in none
+pub used-at : (p : Schedule) (x : Layer) (f : ℕ) → IsPlan p → 0 < packets_of p.first x → 0 < packets_of (sent_at p f) x
+used-at p x f plan some =
+    elim (option_cases (layer_of (at_frame p f).setting x)) [
+      | inr used ↦ some_packets (sent_at p f) x used.0 (setting_accepted p f plan) used.1
+      | inl none ↦
+          (let same = layers_alike p f plan in
+          let e = packets-unused p.first x (layers_none (at_frame p f).setting p.first.setting x (sym same.0, sym same.1) none) in
+          absurd (omega (arith, e, some)))
+    ]
+
+pub unused-at : (p : Schedule) (x : Layer) (f : ℕ) → IsPlan p → packets_of p.first x ≡ 0 → packets_of (sent_at p f) x ≡ 0
+unused-at p x f plan empty = packets-unused (sent_at p f) x (layers_none p.first.setting (at_frame p f).setting x (layers_alike p f plan) (unused-none p.first x plan.first empty))
+
+-- ---- the last epoch
+
+pub filled-last : (p : Schedule) (x : Layer) (f : ℕ) → IsPlan p → last_start p ≤ f → filled p x f ≡ packets_of (last_sent p) x
+filled-last p x f plan past = ap (λ at. filled_at at f x) (last_epoch p f plan past)
+
+pub packets-last : (p : Schedule) (x : Layer) (f : ℕ) → IsPlan p → last_start p ≤ f → packets_of (sent_at p f) x ≡ packets_of (last_sent p) x
+packets-last p x f plan past = ap (λ at. number_of (packets_per_frame at.mode) (layer_of at.setting x)) (last_epoch p f plan past)
+
+pub used-last : (p : Schedule) (x : Layer) → IsPlan p → 0 < packets_of p.first x → 0 < packets_of (last_sent p) x
+used-last p x plan some =
+    let a = used-at p x (last_start p) plan some in
+    let b = packets-last p x (last_start p) plan (omega arith) in
+    omega (arith, a, b)
+
+pub placed_before-last : (p : Schedule) (x : Layer) (k : ℕ) → IsPlan p → placed_before p x (last_start p + k) ≡ placed_before p x (last_start p) + k * packets_of (last_sent p) x
+placed_before-last p x zero plan =
+    ap (placed_before p x) (let e : last_start p + 0 ≡ last_start p = omega arith in e)
+    ∙ (let e : placed_before p x (last_start p) ≡ placed_before p x (last_start p) + 0 * packets_of (last_sent p) x = omega arith in e)
+placed_before-last p x (suc k) plan =
+    ap (placed_before p x) (let e : last_start p + suc k ≡ suc (last_start p + k) = omega arith in e)
+    ∙ placed_before-suc p x (last_start p + k)
+    ∙ (let a = placed_before-last p x k plan in let b = filled-last p x (last_start p + k) plan (omega arith) in omega (arith, a, b))
 
 -- ---- how many frames cover so many packets
 
@@ -97,128 +194,77 @@ ceil-most n t f some most =
 
 -- ---- how many frames there are
 
-has_segments : (s : Parameters) (x : Layer) (l : LayerParameters) → IsAccepted s → layer_of s x ≡ Some l → HasSegments l
-has_segments s A l h e = subst HasSegmentsIfUsed e h.a_segments
-has_segments s B l h e = subst HasSegmentsIfUsed e h.b_segments
-has_segments s C l h e = subst HasSegmentsIfUsed e h.c_segments
+frames-used : (p : Schedule) (count : Layer → ℕ) (x : Layer) (l : LayerParameters) → layer_of (last_sent p).setting x ≡ Some l → data_frames_of p count x ≡ div_ceil (count x - placed_before p x (last_start p)) (packets_of (last_sent p) x)
+frames-used p count x l e = rw e refl
 
--- a used layer has packets
-some_packets : (p : Schedule) (x : Layer) (l : LayerParameters) → IsPlain p → layer_of p.first.setting x ≡ Some l → 0 < packets_per_frame p.first.mode l
-some_packets p x l plain e = (let least = packets-least p.first.mode l (has_segments p.first.setting x l plain.accepted e) in omega (arith, least))
-
-packets-used : (p : Schedule) (x : Layer) (l : LayerParameters) → layer_of p.first.setting x ≡ Some l → packets_of p.first x ≡ packets_per_frame p.first.mode l
-packets-used p x l e = rw e refl
-
-packets-unused : (p : Schedule) (x : Layer) → layer_of p.first.setting x ≡ None → packets_of p.first x ≡ 0
-packets-unused p x e = rw e refl
-
-most_of : (mode : Mode) (l : LayerParameters) → HasSegments l → packets_per_frame mode l ≤ 3276
-most_of M1 l h = (let most = packets-most M1 l in let few = h.1 in omega (arith, most, few))
-most_of M2 l h = (let most = packets-most M2 l in let few = h.1 in omega (arith, most, few))
-most_of M3 l h = (let most = packets-most M3 l in let few = h.1 in omega (arith, most, few))
-
--- a layer has no more packets than thirteen segments hold
-pub packets-few : (p : Schedule) (x : Layer) → IsPlain p → packets_of p.first x ≤ 3276
-packets-few p x plain =
-    elim (option_cases (layer_of p.first.setting x)) [
-      | inl none ↦ (let e = packets-unused p x none in omega (arith, e))
-      | inr used ↦ (let e = packets-used p x used.0 used.1 in let most = most_of p.first.mode used.0 (has_segments p.first.setting x used.0 plain.accepted used.1) in omega (arith, e, most))
-    ]
-
-frames-used : (p : Schedule) (count : Layer → ℕ) (x : Layer) (l : LayerParameters) → p.switches ≡ [] → layer_of p.first.setting x ≡ Some l → data_frames_of p count x ≡ div_ceil (count x) (packets_per_frame p.first.mode l)
-unfolding placed_before
-frames-used p count x l none e = rw (none, e) (let n : count x - 0 ≡ count x = omega arith in rw n refl)
-
-frames-unused : (p : Schedule) (count : Layer → ℕ) (x : Layer) → p.switches ≡ [] → layer_of p.first.setting x ≡ None → data_frames_of p count x ≡ 0
-frames-unused p count x none e = rw (none, e) refl
+frames-unused : (p : Schedule) (count : Layer → ℕ) (x : Layer) → layer_of (last_sent p).setting x ≡ None → data_frames_of p count x ≡ 0
+frames-unused p count x e = rw e refl
 
 frames_of-le : (p : Schedule) (count : Layer → ℕ) (x : Layer) → data_frames_of p count x ≤ data_frames p count
 frames_of-le p count A = omega arith
 frames_of-le p count B = omega arith
 frames_of-le p count C = omega arith
 
--- a layer whose packets go on behind frame f wants a frame more
-pub data_frames-more : (p : Schedule) (count : Layer → ℕ) (x : Layer) (f : ℕ) → IsPlain p → f * packets_of p.first x < count x → 0 < packets_of p.first x → f < data_frames p count
-data_frames-more p count x f plain more some =
-    elim (option_cases (layer_of p.first.setting x)) [
-      | inl none ↦ absurd (let e = packets-unused p x none in omega (arith, e, some))
-      | inr used ↦
-          (let t = packets-used p x used.0 used.1 in
-          let is = frames-used p count x used.0 plain.no_switch used.1 in
-          let rows = ap (λ n. f * n) t in
-          let less = ceil-more (count x) (packets_per_frame p.first.mode used.0) f (some_packets p x used.0 plain used.1) (omega (arith, more, rows)) in
-          let all = frames_of-le p count x in
-          omega (arith, less, is, all))
-    ]
+-- a layer whose packets go on behind k frames of the last epoch wants a frame more
+pub data_frames-more : (p : Schedule) (count : Layer → ℕ) (x : Layer) (k : ℕ) → IsPlan p → placed_before p x (last_start p + k) < count x → 0 < packets_of (last_sent p) x → k < data_frames p count
+data_frames-more p count x k plan more some =
+    let used = used-some (last_sent p) x some in
+    let is = frames-used p count x used.0 used.1 in
+    let rows = placed_before-last p x k plan in
+    let less = ceil-more (count x - placed_before p x (last_start p)) (packets_of (last_sent p) x) k some (omega (arith, more, rows)) in
+    let all = frames_of-le p count x in
+    omega (arith, less, is, all)
 
 -- frames that hold all packets are enough
-layer-most : (p : Schedule) (count : Layer → ℕ) (x : Layer) (f : ℕ) → IsPlain p → count x ≤ f * packets_of p.first x → data_frames_of p count x ≤ f
-layer-most p count x f plain all =
-    elim (option_cases (layer_of p.first.setting x)) [
-      | inl none ↦ (let e = frames-unused p count x plain.no_switch none in omega (arith, e))
+layer-most : (p : Schedule) (count : Layer → ℕ) (x : Layer) (k : ℕ) → IsPlan p → count x ≤ placed_before p x (last_start p + k) → data_frames_of p count x ≤ k
+layer-most p count x k plan all =
+    elim (option_cases (layer_of (last_sent p).setting x)) [
+      | inl none ↦ (let e = frames-unused p count x none in omega (arith, e))
       | inr used ↦
-          (let t = packets-used p x used.0 used.1 in
-          let is = frames-used p count x used.0 plain.no_switch used.1 in
-          let rows = ap (λ n. f * n) t in
-          let most = ceil-most (count x) (packets_per_frame p.first.mode used.0) f (some_packets p x used.0 plain used.1) (omega (arith, all, rows)) in
+          (let rows = placed_before-last p x k plan in
+          let is = frames-used p count x used.0 used.1 in
+          let accepted = subst (λ (at : At). IsAccepted at.setting) (last_epoch p (last_start p) plan (omega arith)) (setting_accepted p (last_start p) plan) in
+          let some = some_packets (last_sent p) x used.0 accepted used.1 in
+          let most = ceil-most (count x - placed_before p x (last_start p)) (packets_of (last_sent p) x) k some (omega (arith, all, rows)) in
           omega (arith, most, is))
     ]
 
-pub data_frames-most : (p : Schedule) (count : Layer → ℕ) (f : ℕ) → IsPlain p → ((x : Layer) → count x ≤ f * packets_of p.first x) → data_frames p count ≤ f
-data_frames-most p count f plain all =
-    let a = layer-most p count A f plain (all A) in
-    let b = layer-most p count B f plain (all B) in
-    let c = layer-most p count C f plain (all C) in
+pub data_frames-most : (p : Schedule) (count : Layer → ℕ) (k : ℕ) → IsPlan p → ((x : Layer) → count x ≤ placed_before p x (last_start p + k)) → data_frames p count ≤ k
+data_frames-most p count k plan all =
+    let a = layer-most p count A k plan (all A) in
+    let b = layer-most p count B k plan (all B) in
+    let c = layer-most p count C k plan (all C) in
     omega (arith, a, b, c)
 
 -- so many frames hold all packets of a used layer
-pub data_frames-cover : (p : Schedule) (count : Layer → ℕ) (x : Layer) (f : ℕ) → IsPlain p → data_frames p count ≤ f → 0 < packets_of p.first x → count x ≤ f * packets_of p.first x
-data_frames-cover p count x f plain past some =
-    elim (option_cases (layer_of p.first.setting x)) [
-      | inl none ↦ absurd (let e = packets-unused p x none in omega (arith, e, some))
-      | inr used ↦
-          (let t = packets-used p x used.0 used.1 in
-          let is = frames-used p count x used.0 plain.no_switch used.1 in
-          let le = frames_of-le p count x in
-          let covers = ceil-covers (count x) (packets_per_frame p.first.mode used.0) (some_packets p x used.0 plain used.1) in
-          let fewer : div_ceil (count x) (packets_per_frame p.first.mode used.0) ≤ f = omega (arith, is, le, past) in
-          let rows = mul-le-mul_right (packets_per_frame p.first.mode used.0) fewer in
-          let same = ap (λ n. f * n) t in
-          omega (arith, covers, rows, same))
-    ]
+pub data_frames-cover : (p : Schedule) (count : Layer → ℕ) (x : Layer) (k : ℕ) → IsPlan p → data_frames p count ≤ k → 0 < packets_of (last_sent p) x → count x ≤ placed_before p x (last_start p + k)
+data_frames-cover p count x k plan past some =
+    let used = used-some (last_sent p) x some in
+    let is = frames-used p count x used.0 used.1 in
+    let le = frames_of-le p count x in
+    let covers = ceil-covers (count x - placed_before p x (last_start p)) (packets_of (last_sent p) x) some in
+    let fewer : div_ceil (count x - placed_before p x (last_start p)) (packets_of (last_sent p) x) ≤ k = omega (arith, is, le, past) in
+    let rows = mul-le-mul_right (packets_of (last_sent p) x) fewer in
+    let same = placed_before-last p x k plan in
+    omega (arith, covers, rows, same)
 
-counted : (start d g : ℕ) → start ≡ 0 → 0 < d → start + (if d == 0 then 0 else d + g) ≡ d + g
-counted start d g first some = rw (ne_eqb d 0 (λ e. omega (arith, e, some)), first) (omega arith)
+counted : (start d g : ℕ) → 0 < d → start + (if d == 0 then 0 else d + g) ≡ start + (d + g)
+counted start d g some = rw (ne_eqb d 0 (λ e. omega (arith, e, some))) refl
 
-counted-none : (start d g : ℕ) → start ≡ 0 → d ≡ 0 → start + (if d == 0 then 0 else d + g) ≡ 0
-counted-none start d g first none = rw (eq-eqb d 0 none, first) refl
+counted-none : (start d g : ℕ) → d ≡ 0 → start + (if d == 0 then 0 else d + g) ≡ start
+counted-none start d g none = rw (eq-eqb d 0 none) (omega arith)
 
-pub frame_count-some : (p : Schedule) (count : Layer → ℕ) → p.switches ≡ [] → 0 < data_frames p count → frame_count p count ≡ data_frames p count + greatest_delay p.first.mode p.first.setting
+pub frame_count-some : (p : Schedule) (count : Layer → ℕ) → 0 < data_frames p count → frame_count p count ≡ last_start p + (data_frames p count + greatest_delay (last_sent p).mode (last_sent p).setting)
 unfolding frame_count
-frame_count-some p count none some =
-    counted (last_start p) (data_frames p count) (greatest_delay (last_sent p).mode (last_sent p).setting) (last_start-one p none) some
-    ∙ ap (λ t. data_frames p count + greatest_delay t.mode t.setting) (last_sent-one p none)
+frame_count-some p count some = counted (last_start p) (data_frames p count) (greatest_delay (last_sent p).mode (last_sent p).setting) some
 
-pub frame_count-none : (p : Schedule) (count : Layer → ℕ) → p.switches ≡ [] → data_frames p count ≡ 0 → frame_count p count ≡ 0
+pub frame_count-none : (p : Schedule) (count : Layer → ℕ) → data_frames p count ≡ 0 → frame_count p count ≡ last_start p
 unfolding frame_count
-frame_count-none p count none empty =
-    counted-none (last_start p) (data_frames p count) (greatest_delay (last_sent p).mode (last_sent p).setting) (last_start-one p none) empty
+frame_count-none p count empty = counted-none (last_start p) (data_frames p count) (greatest_delay (last_sent p).mode (last_sent p).setting) empty
 
--- the packets of a layer in the first frame
-pub packets-first : (p : Schedule) (at : At) (x : Layer) → p.switches ≡ [] → at ≡ at_frame p 0 → number_of (packets_per_frame at.mode) (layer_of at.setting x) ≡ packets_of p.first x
-packets-first p at x none is = ap (λ a. number_of (packets_per_frame a.mode) (layer_of a.setting x)) (is ∙ at_frame-one p 0 none)
-
--- a layer is used where it has packets
-pub used-some : (p : Schedule) (x : Layer) → 0 < packets_of p.first x → (l : LayerParameters) × (layer_of p.first.setting x ≡ Some l)
-used-some p x some =
-    elim (option_cases (layer_of p.first.setting x)) [
-      | inl none ↦ absurd (let e = packets-unused p x none in omega (arith, e, some))
-      | inr used ↦ used
-    ]
-
-pub unused-none : (p : Schedule) (x : Layer) → IsPlain p → packets_of p.first x ≡ 0 → layer_of p.first.setting x ≡ None
-unused-none p x plain empty =
-    elim (option_cases (layer_of p.first.setting x)) [
-      | inl none ↦ none
-      | inr used ↦ absurd (let e = packets-used p x used.0 used.1 in let some = some_packets p x used.0 plain used.1 in omega (arith, e, some, empty))
+pub frame_count-least : (p : Schedule) (count : Layer → ℕ) → last_start p ≤ frame_count p count
+frame_count-least p count =
+    elim (cases_lt 0 (data_frames p count)) [
+      | inl some ↦ (let e = frame_count-some p count some in omega (arith, e))
+      | inr none ↦ (let e = frame_count-none p count (omega (arith, none)) in omega (arith, e))
     ]

@@ -1,5 +1,5 @@
 -- Why a frame is refused, by the packets that were read for it.
-use Rattle.std.proofs.Common.{◌≡◌, ◌≢◌, ℕ, ◌+◌, ◌-◌, ◌*◌, ◌/◌, ◌%◌, ◌<◌, ◌≤◌, vec_len, Bool, true, false, List, [], ◌∷◌, length, take, drop, get_or, None, Some, refl, sym, ap, ◌∙◌, arith, inl, inr}
+use Rattle.std.proofs.Common.{◌≡◌, ◌≢◌, ℕ, ◌+◌, ◌-◌, ◌*◌, ◌%◌, ◌<◌, ◌≤◌, Bool, true, false, List, [], ◌∷◌, length, take, drop, get_or, None, Some, refl, sym, ap, ◌∙◌, arith, inl, inr}
 use Rattle.std.specs.declared.option.Option.{Option}
 use Rattle.std.specs.Option.{option_or}
 use Rattle.std.specs.Prelude.{◌&&◌, ◌==◌, if◌then◌else◌}
@@ -10,116 +10,106 @@ use Rattle.isdbt_base.specs.declared.kinds.Layer.TheVariants.{A, B, C}
 use Rattle.isdbt_base.specs.Plans.{Schedule}
 use Rattle.isdbt_base.specs.Outcome.{first_some}
 use Rattle.remux_core.specs.declared.fault.RemuxFault.{RemuxFault}
-use Rattle.remux_core.specs.declared.fault.RemuxFault.TheVariants.{BadSync, Truncated, TooLong}
+use Rattle.remux_core.specs.declared.fault.RemuxFault.TheVariants.{Truncated, TooLong}
 use Rattle.remux_core.specs.declared.layer_input.LayerInput.{LayerInput}
 use Rattle.remux_core.specs.declared.packets.Part.{Part}
 use Rattle.remux_core.specs.declared.packets.Part.TheVariants.{Good, NoSync, Cut}
 use Rattle.remux_core.specs.Multiplex.{filled, placed_before}
 use Rattle.remux_core.specs.Refusals.{seat_of, refusal, is_there, too_long_at, truncated_in, bad_sync_in}
-use Rattle.remux_core.specs.Frames.{packets_of}
 use Rattle.remux_core.specs.Parts.{HasSync, IsWhole, IsGood, Says}
-use Rattle.remux_core.specs.Answers.{IsPlain}
 use Rattle.remux_core.specs.Reading.{input_of, IsRead}
 use Rattle.remux_core.specs.declared.inputs.Inputs.{Inputs}
 use Rattle.remux_core.specs.PacketFaults.{cut_fault, sync_fault}
-use Rattle.remux_core.proofs.Places.{filled-one, placed_before-one}
 use Rattle.remux_core.proofs.Parts.{length-part_of, truncated-whole, truncated-full, truncated-ended, truncated-cut, bad_sync-none, bad_sync-first}
 
 -- ---- the bytes that were read
 
-pub read_length : (t : ℕ) (bytes : List ℕ) (f : ℕ) (i : LayerInput) → IsRead t bytes f i → length (take i.count i.bytes.items) ≡ i.count
-read_length t bytes f i r = ap length r.part ∙ length-part_of bytes (f * t) t ∙ sym r.count
+pub read_length : (first t : ℕ) (bytes : List ℕ) (i : LayerInput) → IsRead first t bytes i → length (take i.count i.bytes.items) ≡ i.count
+read_length first t bytes i r = ap length r.part ∙ length-part_of bytes first t ∙ sym r.count
 
 -- the first byte of a packet that was read
-first_byte : (t : ℕ) (bytes : List ℕ) (f : ℕ) (i : LayerInput) (k : ℕ) → IsRead t bytes f i → 188 * k < i.count → get_or (take i.count i.bytes.items) (188 * k) 0 ≡ get_or bytes (188 * (f * t + k)) 0
-first_byte t bytes f i k r less =
+first_byte : (first t : ℕ) (bytes : List ℕ) (i : LayerInput) (k : ℕ) → IsRead first t bytes i → 188 * k < i.count → get_or (take i.count i.bytes.items) (188 * k) 0 ≡ get_or bytes (188 * (first + k)) 0
+first_byte first t bytes i k r less =
     let count = r.count in
-    let there : 188 * (f * t) + 188 * k ≡ 188 * (f * t + k) = omega arith in
+    let there : 188 * first + 188 * k ≡ 188 * (first + k) = omega arith in
     let within : 188 * k < 188 * t = omega (arith, less, count) in
-    ap (λ xs. get_or xs (188 * k) 0) r.part ∙ get_or-take (188 * t) (drop (188 * (f * t)) bytes) (188 * k) 0 within
-    ∙ get_or-drop (188 * (f * t)) bytes (188 * k) 0 ∙ ap (λ n. get_or bytes n 0) there
+    ap (λ xs. get_or xs (188 * k) 0) r.part ∙ get_or-take (188 * t) (drop (188 * first) bytes) (188 * k) 0 within
+    ∙ get_or-drop (188 * first) bytes (188 * k) 0 ∙ ap (λ n. get_or bytes n 0) there
 
 -- a packet that was read, by its place in the input
-sync_at : (t : ℕ) (bytes : List ℕ) (f : ℕ) (i : LayerInput) (k : ℕ) → IsRead t bytes f i → f * t ≤ k → 188 * (k - f * t) < i.count → HasSync (take i.count i.bytes.items) (k - f * t) → HasSync bytes k
-sync_at t bytes f i k r from less has =
-    let at : f * t + (k - f * t) ≡ k = omega (arith, from) in
-    ap (λ n. get_or bytes (188 * n) 0) (sym at) ∙ sym (first_byte t bytes f i (k - f * t) r less) ∙ has
+sync_at : (first t : ℕ) (bytes : List ℕ) (i : LayerInput) (k : ℕ) → IsRead first t bytes i → first ≤ k → 188 * (k - first) < i.count → HasSync (take i.count i.bytes.items) (k - first) → HasSync bytes k
+sync_at first t bytes i k r from less has =
+    let at : first + (k - first) ≡ k = omega (arith, from) in
+    ap (λ n. get_or bytes (188 * n) 0) (sym at) ∙ sym (first_byte first t bytes i (k - first) r less) ∙ has
 
 -- the packets of the part begin with the sync byte
-pub synced : (t : ℕ) (bytes : List ℕ) (f : ℕ) (i : LayerInput) (k : ℕ) → IsRead t bytes f i → IsGood (take i.count i.bytes.items) → f * t ≤ k → k < f * t + t → 188 * k < length bytes → HasSync bytes k
-synced t bytes f i k r good from below there =
-    let len = read_length t bytes f i r in
+pub synced : (first t : ℕ) (bytes : List ℕ) (i : LayerInput) (k : ℕ) → IsRead first t bytes i → IsGood (take i.count i.bytes.items) → first ≤ k → k < first + t → 188 * k < length bytes → HasSync bytes k
+synced first t bytes i k r good from below there =
+    let len = read_length first t bytes i r in
     let count = r.count in
-    let less : 188 * (k - f * t) < i.count = omega (arith, count, from, below, there) in
-    sync_at t bytes f i k r from less (good.sync (k - f * t) (omega (arith, len, less)))
+    let less : 188 * (k - first) < i.count = omega (arith, count, from, below, there) in
+    sync_at first t bytes i k r from less (good.sync (k - first) (omega (arith, len, less)))
 
 -- ---- one layer
 
-record LayerRead (p : Schedule) (input : Layer → List ℕ) (f : ℕ) (x : Layer) (i : LayerInput) : Type 0 where
-  plain : IsPlain p
-  read : IsRead (packets_of p.first x) (input x) f i
-
-placed : (p : Schedule) (x : Layer) (f : ℕ) → IsPlain p → placed_before p x f ≡ f * packets_of p.first x
-placed p x f plain = placed_before-one p x f plain.no_switch
-
-fills : (p : Schedule) (x : Layer) (f : ℕ) → IsPlain p → filled p x f ≡ packets_of p.first x
-fills p x f plain = filled-one p x f plain.no_switch
+-- a layer's packets of frame f were read, and this is what they are
+pub record PartRead (p : Schedule) (input : Layer → List ℕ) (f : ℕ) (x : Layer) (i : LayerInput) (part : Part) : Type 0 where
+  pub first : i.first ≡ placed_before p x f
+  pub read : IsRead (placed_before p x f) (filled p x f) (input x) i
+  pub says : Says (take i.count i.bytes.items) part
 
 -- whole packets: the input isn't cut in this frame
-whole_part : (p : Schedule) (input : Layer → List ℕ) (f : ℕ) (x : Layer) (i : LayerInput) → LayerRead p input f x i → IsWhole (take i.count i.bytes.items) → truncated_in p input f x ≡ None
+whole_part : (p : Schedule) (input : Layer → List ℕ) (f : ℕ) (x : Layer) (i : LayerInput) → IsRead (placed_before p x f) (filled p x f) (input x) i → IsWhole (take i.count i.bytes.items) → truncated_in p input f x ≡ None
 whole_part p input f x i r whole =
-    let len = read_length (packets_of p.first x) (input x) f i r.read in
-    let count = r.read.count in
-    let a = placed p x f r.plain in
-    let b = fills p x f r.plain in
-    elim (cases_lt i.count (188 * packets_of p.first x)) [
-      | inr all ↦ elim (cases_lt (length (input x)) (188 * (f * packets_of p.first x))) [
-        | inl short ↦ truncated-ended p input f x (omega (arith, a, short))
-        | inr long ↦ truncated-full p input f x (omega (arith, a, b, count, all, long))
+    let len = read_length (placed_before p x f) (filled p x f) (input x) i r in
+    let count = r.count in
+    elim (cases_lt i.count (188 * filled p x f)) [
+      | inr all ↦ elim (cases_lt (length (input x)) (188 * placed_before p x f)) [
+        | inl short ↦ truncated-ended p input f x (omega (arith, short))
+        | inr long ↦ truncated-full p input f x (omega (arith, count, all, long))
       ]
       | inl short ↦ elim (cases_lt 0 i.count) [
         | inl some ↦ truncated-whole p input f x (omega (arith, len, count, short, some, whole))
-        | inr none ↦ truncated-ended p input f x (omega (arith, a, count, short, none))
+        | inr none ↦ truncated-ended p input f x (omega (arith, count, short, none))
       ]
     ]
 
-cut_is : (p : Schedule) (input : Layer → List ℕ) (f : ℕ) (x : Layer) (i : LayerInput) (part : Part) → LayerRead p input f x i → Says (take i.count i.bytes.items) part → truncated_in p input f x ≡ cut_fault (seat_of x) part
-cut_is p input f x i Good r says = whole_part p input f x i r says.whole
-cut_is p input f x i (NoSync k) r says = whole_part p input f x i r says.whole
-cut_is p input f x i (Cut over) r says =
-    let len = read_length (packets_of p.first x) (input x) f i r.read in
-    let count = r.read.count in
-    let a = placed p x f r.plain in
-    let b = fills p x f r.plain in
+cut_says : (p : Schedule) (input : Layer → List ℕ) (f : ℕ) (x : Layer) (i : LayerInput) (part : Part) → IsRead (placed_before p x f) (filled p x f) (input x) i → Says (take i.count i.bytes.items) part → truncated_in p input f x ≡ cut_fault (seat_of x) part
+cut_says p input f x i Good r says = whole_part p input f x i r says.whole
+cut_says p input f x i (NoSync k) r says = whole_part p input f x i r says.whole
+cut_says p input f x i (Cut over) r says =
+    let len = read_length (placed_before p x f) (filled p x f) (input x) i r in
+    let count = r.count in
     let some = says.some in
     let over_is = says.over_is in
     let rest : length (input x) % 188 ≡ over = omega (arith, len, count, some, over_is) in
     let ne : length (input x) % 188 ≢ 0 = omega (arith, rest, some) in
-    truncated-cut p input f x ne (omega (arith, a, len, count, some, over_is)) (omega (arith, a, b, len, count, some, over_is)) ∙ ap (λ n. Some (Truncated (seat_of x) n)) rest
+    truncated-cut p input f x ne (omega (arith, len, count, some, over_is)) (omega (arith, len, count, some, over_is)) ∙ ap (λ n. Some (Truncated (seat_of x) n)) rest
+
+cut_is : (p : Schedule) (input : Layer → List ℕ) (f : ℕ) (x : Layer) (i : LayerInput) (part : Part) → PartRead p input f x i part → truncated_in p input f x ≡ cut_fault (seat_of x) part
+cut_is p input f x i part r = cut_says p input f x i part r.read r.says
 
 none_some : {X : Type 0} (x : X) → Some x ≡ None → ⊥
 none_some x e = cc
 
-sync_is : (p : Schedule) (input : Layer → List ℕ) (f : ℕ) (x : Layer) (i : LayerInput) (part : Part) → LayerRead p input f x i → Says (take i.count i.bytes.items) part → cut_fault (seat_of x) part ≡ None → bad_sync_in p input f x ≡ sync_fault (seat_of x) (f * packets_of p.first x) part
-sync_is p input f x i Good r says uncut =
-    let a = placed p x f r.plain in
-    let b = fills p x f r.plain in
-    let len = read_length (packets_of p.first x) (input x) f i r.read in
-    let count = r.read.count in
+sync_says : (p : Schedule) (input : Layer → List ℕ) (f : ℕ) (x : Layer) (i : LayerInput) (part : Part) → IsRead (placed_before p x f) (filled p x f) (input x) i → Says (take i.count i.bytes.items) part → cut_fault (seat_of x) part ≡ None → bad_sync_in p input f x ≡ sync_fault (seat_of x) (placed_before p x f) part
+sync_says p input f x i Good r says uncut =
+    let len = read_length (placed_before p x f) (filled p x f) (input x) i r in
+    let count = r.count in
     let whole = says.whole in
-    bad_sync-none p input f x (λ k from below there. synced (packets_of p.first x) (input x) f i k r.read says (omega (arith, a, from)) (omega (arith, a, b, below)) (omega (arith, a, b, from, below, there, len, count, whole)))
-sync_is p input f x i (NoSync k) r says uncut =
-    let a = placed p x f r.plain in
-    let b = fills p x f r.plain in
-    let len = read_length (packets_of p.first x) (input x) f i r.read in
-    let count = r.read.count in
+    bad_sync-none p input f x (λ k from below there. synced (placed_before p x f) (filled p x f) (input x) i k r says from below (omega (arith, from, below, there, len, count, whole)))
+sync_says p input f x i (NoSync k) r says uncut =
+    let len = read_length (placed_before p x f) (filled p x f) (input x) i r in
+    let count = r.count in
     let inside = says.within in
     let within : 188 * k < i.count = omega (arith, len, inside) in
-    bad_sync-first p input f x k (omega (arith, b, within, count)) (omega (arith, a, within, count))
-    (λ e. says.bad (first_byte (packets_of p.first x) (input x) f i k r.read within ∙ ap (λ m. get_or (input x) (188 * (m + k)) 0) (sym a) ∙ e))
-    (λ m from below. sync_at (packets_of p.first x) (input x) f i m r.read (omega (arith, a, from)) (omega (arith, a, from, below, within)) (says.before (m - f * packets_of p.first x) (omega (arith, a, from, below))))
-    ∙ ap (λ n. Some (BadSync (seat_of x) (n + k))) a
-sync_is p input f x i (Cut over) r says uncut = absurd (none_some (Truncated (seat_of x) over) uncut)
+    bad_sync-first p input f x k (omega (arith, within, count)) (omega (arith, within, count))
+    (λ e. says.bad (first_byte (placed_before p x f) (filled p x f) (input x) i k r within ∙ e))
+    (λ m from below. sync_at (placed_before p x f) (filled p x f) (input x) i m r from (omega (arith, from, below, within)) (says.before (m - placed_before p x f) (omega (arith, from, below))))
+sync_says p input f x i (Cut over) r says uncut = absurd (none_some (Truncated (seat_of x) over) uncut)
+
+sync_is : (p : Schedule) (input : Layer → List ℕ) (f : ℕ) (x : Layer) (i : LayerInput) (part : Part) → PartRead p input f x i part → cut_fault (seat_of x) part ≡ None → bad_sync_in p input f x ≡ sync_fault (seat_of x) i.first part
+sync_is p input f x i part r uncut = sync_says p input f x i part r.read r.says uncut ∙ ap (λ n. sync_fault (seat_of x) n part) (sym r.first)
 
 -- ---- the limit
 
@@ -159,42 +149,22 @@ ors None None None None None (Some x) = refl
 ors None None None None None None = refl
 
 -- the first cause among the packets that were read is the frame's refusal
-pub refusal-read : (p : Schedule) (input : Layer → List ℕ) (limit f : ℕ) (a b c : LayerInput) (pa pb pc : Part) → IsPlain p → f < limit → IsRead (packets_of p.first A) (input A) f a → IsRead (packets_of p.first B) (input B) f b → IsRead (packets_of p.first C) (input C) f c →
-    Says (take a.count a.bytes.items) pa → Says (take b.count b.bytes.items) pb → Says (take c.count c.bytes.items) pc →
-    option_or (option_or (option_or (option_or (option_or (cut_fault (seat_of A) pa) (cut_fault (seat_of B) pb)) (cut_fault (seat_of C) pc)) (sync_fault (seat_of A) (f * packets_of p.first A) pa)) (sync_fault (seat_of B) (f * packets_of p.first B) pb)) (sync_fault (seat_of C) (f * packets_of p.first C) pc) ≡ refusal p input limit f
+pub refusal-read : (p : Schedule) (input : Layer → List ℕ) (limit f : ℕ) (i : Inputs) (pa pb pc : Part) → f < limit → PartRead p input f A i.a pa → PartRead p input f B i.b pb → PartRead p input f C i.c pc →
+    option_or (option_or (option_or (option_or (option_or (cut_fault (seat_of A) pa) (cut_fault (seat_of B) pb)) (cut_fault (seat_of C) pc)) (sync_fault (seat_of A) i.a.first pa)) (sync_fault (seat_of B) i.b.first pb)) (sync_fault (seat_of C) i.c.first pc) ≡ refusal p input limit f
 unfolding refusal
-refusal-read p input limit f a b c pa pb pc plain less ra rb rc sa sb sc =
-    let la : LayerRead p input f A a = record { plain = plain; read = ra } in
-    let lb : LayerRead p input f B b = record { plain = plain; read = rb } in
-    let lc : LayerRead p input f C c = record { plain = plain; read = rc } in
-    let ca = cut_is p input f A a pa la sa in
-    let cb = cut_is p input f B b pb lb sb in
-    let cd = cut_is p input f C c pc lc sc in
-    ors (cut_fault (seat_of A) pa) (cut_fault (seat_of B) pb) (cut_fault (seat_of C) pc) (sync_fault (seat_of A) (f * packets_of p.first A) pa) (sync_fault (seat_of B) (f * packets_of p.first B) pb) (sync_fault (seat_of C) (f * packets_of p.first C) pc)
+refusal-read p input limit f i pa pb pc less ra rb rc =
+    let ca = cut_is p input f A i.a pa ra in
+    let cb = cut_is p input f B i.b pb rb in
+    let cd = cut_is p input f C i.c pc rc in
+    ors (cut_fault (seat_of A) pa) (cut_fault (seat_of B) pb) (cut_fault (seat_of C) pc) (sync_fault (seat_of A) i.a.first pa) (sync_fault (seat_of B) i.b.first pb) (sync_fault (seat_of C) i.c.first pc)
     ∙ sym (behind (cut_fault (seat_of A) pa) (cut_fault (seat_of B) pb) (cut_fault (seat_of C) pc)
-    (sync_fault (seat_of A) (f * packets_of p.first A) pa) (sync_fault (seat_of B) (f * packets_of p.first B) pb) (sync_fault (seat_of C) (f * packets_of p.first C) pc)
+    (sync_fault (seat_of A) i.a.first pa) (sync_fault (seat_of B) i.b.first pb) (sync_fault (seat_of C) i.c.first pc)
     (bad_sync_in p input f A) (bad_sync_in p input f B) (bad_sync_in p input f C)
-    (sync_is p input f A a pa la sa) (sync_is p input f B b pb lb sb) (sync_is p input f C c pc lc sc))
+    (sync_is p input f A i.a pa ra) (sync_is p input f B i.b pb rb) (sync_is p input f C i.c pc rc))
     ∙ ap (λ o. first_some (o ∷ cut_fault (seat_of B) pb ∷ cut_fault (seat_of C) pc ∷ bad_sync_in p input f A ∷ bad_sync_in p input f B ∷ bad_sync_in p input f C ∷ [])) (sym ca)
     ∙ ap (λ o. first_some (truncated_in p input f A ∷ o ∷ cut_fault (seat_of C) pc ∷ bad_sync_in p input f A ∷ bad_sync_in p input f B ∷ bad_sync_in p input f C ∷ [])) (sym cb)
     ∙ ap (λ o. first_some (truncated_in p input f A ∷ truncated_in p input f B ∷ o ∷ bad_sync_in p input f A ∷ bad_sync_in p input f B ∷ bad_sync_in p input f C ∷ [])) (sym cd)
     ∙ sym (skip (too_long_at p input limit f) (truncated_in p input f A ∷ truncated_in p input f B ∷ truncated_in p input f C ∷ bad_sync_in p input f A ∷ bad_sync_in p input f B ∷ bad_sync_in p input f C ∷ []) (too_long-none p input limit f less))
-
--- the same, where the packets before the parts were counted by the room of a frame
-pub refusal-of_parts : (p : Schedule) (input : Layer → List ℕ) (limit f na nb nc : ℕ) (a b c : LayerInput) (pa pb pc : Part) → IsPlain p → f < limit → vec_len a.bytes ≡ 188 * packets_of p.first A → vec_len b.bytes ≡ 188 * packets_of p.first B → vec_len c.bytes ≡ 188 * packets_of p.first C →
-    na ≡ f * (vec_len a.bytes / 188) → nb ≡ f * (vec_len b.bytes / 188) → nc ≡ f * (vec_len c.bytes / 188) →
-    IsRead (packets_of p.first A) (input A) f a → IsRead (packets_of p.first B) (input B) f b → IsRead (packets_of p.first C) (input C) f c →
-    Says (take a.count a.bytes.items) pa → Says (take b.count b.bytes.items) pb → Says (take c.count c.bytes.items) pc →
-    option_or (option_or (option_or (option_or (option_or (cut_fault (seat_of A) pa) (cut_fault (seat_of B) pb)) (cut_fault (seat_of C) pc)) (sync_fault (seat_of A) na pa)) (sync_fault (seat_of B) nb pb)) (sync_fault (seat_of C) nc pc) ≡ refusal p input limit f
-refusal-of_parts p input limit f na nb nc a b c pa pb pc plain less va vb vc ea eb ec ra rb rc sa sb sc =
-    let cuts = option_or (option_or (cut_fault (seat_of A) pa) (cut_fault (seat_of B) pb)) (cut_fault (seat_of C) pc) in
-    ap (λ n. option_or (option_or (option_or cuts (sync_fault (seat_of A) n pa)) (sync_fault (seat_of B) nb pb)) (sync_fault (seat_of C) nc pc)) (counted na (vec_len a.bytes) (packets_of p.first A) va ea)
-    ∙ ap (λ n. option_or (option_or (option_or cuts (sync_fault (seat_of A) (f * packets_of p.first A) pa)) (sync_fault (seat_of B) n pb)) (sync_fault (seat_of C) nc pc)) (counted nb (vec_len b.bytes) (packets_of p.first B) vb eb)
-    ∙ ap (λ n. option_or (option_or (option_or cuts (sync_fault (seat_of A) (f * packets_of p.first A) pa)) (sync_fault (seat_of B) (f * packets_of p.first B) pb)) (sync_fault (seat_of C) n pc)) (counted nc (vec_len c.bytes) (packets_of p.first C) vc ec)
-    ∙ refusal-read p input limit f a b c pa pb pc plain less ra rb rc sa sb sc
-  where
-    counted : (n v t : ℕ) → v ≡ 188 * t → n ≡ f * (v / 188) → n ≡ f * t
-    counted n v t e k = k ∙ ap (λ m. f * m) (let same : v / 188 ≡ t = omega (arith, e) in same)
 
 -- no cause: all packets are good
 pub all_good : (a b c : List ℕ) (pa pb pc : Part) (sa sb sc : ℕ) → Says a pa → Says b pb → Says c pc →

@@ -1,27 +1,24 @@
 -- What an answer of the remultiplexer says of the inputs, of what was written and of what was taken: it is a command over several inputs.
-use Rattle.std.specs.Prelude.{◌≡◌, ℕ, ◌+◌, ◌*◌, ◌≤◌, ◌<◌, List, [], ◌++◌, length, take, drop, Some, None, Ok, Err}
+use Rattle.std.specs.Prelude.{◌≡◌, ℕ, ◌+◌, ◌*◌, ◌≤◌, ◌<◌, ◌⊎◌, List, [], length, drop, Some, None, Ok, Err}
 use Rattle.std.specs.declared.option.Option.{Option}
 use Rattle.std.specs.declared.result.Result.{Result}
 use Rattle.isdbt_base.specs.declared.kinds.Layer.{Layer}
 use Rattle.isdbt_base.specs.declared.kinds.Layer.TheVariants.{A, B, C}
-use Rattle.isdbt_base.specs.Parameters.{IsAccepted}
 use Rattle.isdbt_base.specs.Plans.{Schedule, at_frame}
-use Rattle.isdbt_base.specs.Epochs.{begins_later}
-use Rattle.isdbt_base.specs.Outcome.{product}
+use Rattle.isdbt_base.specs.Epochs.{last_start, begins_later}
 use Rattle.edge_io.specs.declared.shelf.Seat.{Seat}
-use Rattle.edge_io.specs.Known.{append_known}
-use Rattle.edge_io.specs.Causes.{Rose, Cause}
-use Rattle.edge_io.specs.FrameAnswers.{FaultKind, frame_refused, read_failed, write_failed, no_memory, FrameCommand, Passed, Wrote, Ended, Account, FaultAnswer, AnswerCause}
+use Rattle.edge_io.specs.Causes.{Cause}
+use Rattle.edge_io.specs.FrameAnswers.{FaultKind, frame_refused, read_failed, write_failed, no_memory, FrameCommand, Ended, Account, FaultAnswer, AnswerCause}
 use Rattle.remux_core.specs.declared.fault.RemuxFault.{RemuxFault}
-use Rattle.remux_core.specs.declared.fault.RemuxFault.TheVariants.{ReadFault, WriteFault, TooLong, NoMemory}
-use Rattle.remux_core.specs.Multiplex.{filled, placed_before, packet_count, data_frames, frame_count, frame_delay, written_frame}
+use Rattle.remux_core.specs.declared.fault.RemuxFault.TheVariants.{ReadFault, WriteFault, NoMemory}
+use Rattle.remux_core.specs.Multiplex.{filled, placed_before, packet_count, frame_count, frame_delay, written_frame}
 use Rattle.remux_core.specs.Frames.{packets_of}
 use Rattle.remux_core.specs.Refusals.{seat_of, refusal, is_there}
 use Rattle.remux_core.specs.Parts.{IsGood}
 
 -- ---- inputs
 
--- a layer is used in a plan without switches
+-- a layer is used: all settings of a plan use the same layers
 abbrev pub IsUsed : Schedule → Layer → Type 0
 IsUsed p x = 0 < packets_of p.first x
 
@@ -75,13 +72,21 @@ pub record ReadStopped (p : Schedule) (input : Layer → List ℕ) (f : ℕ) (le
   pub earlier : (x : Layer) → IsUsed p x → place_of x < place_of layer → left (seat_of x) ≡ Some (drop (bytes_before p (f + 1) x) (input x))
   pub later : (x : Layer) → IsUsed p x → place_of layer < place_of x → left (seat_of x) ≡ Some (drop (bytes_before p f x) (input x))
 
+-- a read stopped where the last epoch begins at the limit, and each seat that goes on is asked for one byte more: those before this one have nothing left, and no byte past the limit was taken
+pub record AskStopped (p : Schedule) (input : Layer → List ℕ) (limit : ℕ) (left : Seat → Option (List ℕ)) (seat : Seat) : Type 0 where
+  pub begins : last_start p ≡ limit
+  pub layer : Layer
+  pub seat_is : seat ≡ seat_of layer
+  pub left_is : Took p left input (bytes_before p limit)
+  pub earlier : (x : Layer) → IsUsed p x → place_of x < place_of layer → left (seat_of x) ≡ Some []
+
 -- how far the inputs were taken
 abbrev pub remux_account : Schedule → (Layer → List ℕ) → ℕ → (Seat → Option (List ℕ)) → Account
 remux_account p input limit left = record {
   took = λ f. Took p left input (bytes_before p f);
   at_most = TookAtMost p left input;
   untouched = Tells p left input;
-  stopped = λ f seat. (f < limit) × ReadStopped p input f left seat;
+  stopped = λ f seat. ((f < limit) × ReadStopped p input f left seat) ⊎ ((f ≡ limit) × AskStopped p input limit left seat);
 }
 
 -- frame f places packet i of a layer's input
@@ -116,54 +121,3 @@ IsInputSeat p seat = (x : Layer) × IsUsed p x × (seat ≡ seat_of x)
 -- when each answer may come
 abbrev pub RemuxCause : Schedule → (Cause → ℕ) → (Cause → ℕ) → ℕ → ℕ → Result ℕ RemuxFault → Type 0
 RemuxCause p shelf shelf' sink sink' result = AnswerCause remux_kind (IsInputSeat p) shelf shelf' sink sink' result
-
--- a plan without switches, whose setting is accepted
-pub record IsPlain (p : Schedule) : Type 0 where
-  pub no_switch : p.switches ≡ []
-  pub accepted : IsAccepted p.first.setting
-
--- ---- the parts of the command
-
--- all frames with input packets were written, and nothing of the inputs is left
-pub record DataDone (p : Schedule) (input : Layer → List ℕ) (limit frames : ℕ) (before after : Option (List ℕ)) (left : Seat → Option (List ℕ)) : Type 0 where
-  pub good : (x : Layer) → IsGood (input x)
-  pub frames_is : frames ≡ data_frames p (packet_count input)
-  pub passed : Passed (remux_command p input limit) frames
-  pub written : Wrote (remux_command p input limit) frames before after
-  pub left_is : (x : Layer) → IsUsed p x → left (seat_of x) ≡ Some []
-
-abbrev pub DataAnswer : Schedule → (Layer → List ℕ) → ℕ → Option (List ℕ) → Option (List ℕ) → (Seat → Option (List ℕ)) → Result ℕ RemuxFault → Type 0
-DataAnswer p input limit before after left (Ok frames) = DataDone p input limit frames before after left
-DataAnswer p input limit before after left (Err fault) = RemuxAnswer p input limit before after left (Err fault)
-
--- a write failed in a frame that places no input packet
-pub record DrainFailed (p : Schedule) (input : Layer → List ℕ) (limit : ℕ) (before after : Option (List ℕ)) : Type 0 where
-  pub frame : ℕ
-  pub sent : ℕ
-  pub past : data_frames p (packet_count input) ≤ frame
-  pub passed : Passed (remux_command p input limit) (frame + 1)
-  pub short : sent < length (written_frame p input frame)
-  pub written : after ≡ append_known before (product (written_frame p input) frame ++ take sent (written_frame p input frame))
-
--- the limit was reached in such a frame
-pub record DrainStopped (p : Schedule) (input : Layer → List ℕ) (limit : ℕ) (before after : Option (List ℕ)) : Type 0 where
-  pub past : data_frames p (packet_count input) ≤ limit
-  pub ended : Ended (remux_command p input limit) limit (Some TooLong) before after
-
--- what the frames behind the data say, where the frames before them were written
-abbrev pub DrainAnswer : Schedule → (Layer → List ℕ) → ℕ → Option (List ℕ) → Option (List ℕ) → Result ℕ RemuxFault → Type 0
-DrainAnswer p input limit before after (Ok m) = Ended (remux_command p input limit) m None before after
-DrainAnswer p input limit before after (Err TooLong) = DrainStopped p input limit before after
-DrainAnswer p input limit before after (Err WriteFault) = DrainFailed p input limit before after
-DrainAnswer p input limit before after (Err fault) = ⊥
-
--- when the frames behind the data may end so: no seat is read
-abbrev pub DrainFault : ℕ → ℕ → FaultKind → Type 0
-DrainFault sink sink' frame_refused = sink' ≡ sink
-DrainFault sink sink' (read_failed seat) = ⊥
-DrainFault sink sink' write_failed = Rose sink sink'
-DrainFault sink sink' no_memory = ⊥
-
-abbrev pub DrainCause : ℕ → ℕ → Result ℕ RemuxFault → Type 0
-DrainCause sink sink' (Ok m) = sink' ≡ sink
-DrainCause sink sink' (Err fault) = DrainFault sink sink' (remux_kind fault)

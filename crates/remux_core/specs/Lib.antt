@@ -4,4 +4,7 @@ pub mod Parts
 pub mod Frames
 pub mod Answers
 pub mod Reading
+pub mod Epoch
+pub mod Wanted
+pub mod Asking
 pub mod PacketFaults

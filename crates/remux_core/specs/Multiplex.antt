@@ -57,7 +57,7 @@ frame_tag at f = record { odd = f % 2 == 1; first = at.start == f; start_up = fa
 
 -- the broadcast packets of frame f
 unfoldable pub broadcast : Schedule → FramePackets → ℕ → List ℕ
-broadcast p frames f = ordered_frame (at_frame p f).mode (at_frame p f).guard (at_frame p f).setting (frame_tag (at_frame p f) f) (frames f)
+broadcast p frames f = ordered_frame (at_frame p f).mode (at_frame p f).guard (at_frame p f).setting (frame_tag (at_frame p f) f) null_packet (frames f)
 
 -- what is written for frame f
 abbrev pub written_frame : Schedule → (Layer → List ℕ) → ℕ → List ℕ

@@ -1,8 +1,10 @@
 //! The inputs of all layers.
 
+use crate::fault::RemuxFault;
 use crate::layer_input::LayerInput;
+use crate::wanted::Wanted;
 use edge_io::{Failed, Seat, Shelf};
-use isdbt_base::{Layer, Mode, NoMemory, Setting};
+use isdbt_base::{Layer, NoMemory, Plan};
 use std::alloc::Global;
 
 /// The inputs of the layers, frame by frame.
@@ -14,48 +16,60 @@ pub struct Inputs {
 }
 
 impl Inputs {
-    ghost use Rattle.std.specs.Prelude.{◌≡◌, ℕ, List, ◌*◌, ◌≤◌, ◌<◌, true, false, vec_len, IfOk};
+    ghost use Rattle.std.specs.Prelude.{◌≡◌, ℕ, List, ◌+◌, ◌*◌, ◌≤◌, ◌<◌, ◌^◌, true, false, vec_len, IfOk, OnOk};
+    ghost use Rattle.std.specs.declared.option.Option.{Option};
     ghost use Rattle.isdbt_base.specs.declared.kinds.Layer.{Layer as Which};
-    ghost use Rattle.isdbt_base.specs.declared.kinds.Layer.TheVariants as layers;
-    ghost use Rattle.isdbt_base.specs.Parameters.{layer_of, number_of};
-    ghost use Rattle.isdbt_base.specs.Numbers.{packets_per_frame};
-    ghost use Rattle.isdbt_base.specs.Plans.{Schedule};
+    ghost use Rattle.isdbt_base.specs.Epochs.{last_start};
+    ghost use Rattle.isdbt_base.specs.Plans.{Schedule, IsPlan};
+    ghost use Rattle.edge_io.specs.FrameAnswers.{AnswerRoom};
+    ghost use Rattle.remux_core.specs.Answers.{RemuxAnswer, RemuxCause, remux_kind};
+    ghost use Rattle.remux_core.specs.Epoch.{Progress};
+    ghost use Rattle.remux_core.specs.Frames.{most_packets};
+    ghost use Rattle.remux_core.specs.Multiplex.{filled};
     ghost use Rattle.remux_core.specs.Refusals.{seat_of};
-    ghost use Rattle.remux_core.specs.Reading.{input_of, HasSeats, IsReady, ReadAnswer, InputsCause};
+    ghost use Rattle.remux_core.specs.Reading.{input_of, counted, HasSeats, Stands, IsReady, ReadAnswer, InputsCause};
+    ghost use Rattle.remux_core.specs.Wanted.{wanted_of};
 
-    /// Inputs with room for the packets of a frame. Unused layers have ended.
-    pub fn open(alloc: Global, setting: &Setting, mode: Mode) -> Result<Inputs, NoMemory>
-        ensures seats { IfOk result (λ i. HasSeats i) }
-        ensures room { IfOk result (λ i. (x : Which) → vec_len (input_of i x).bytes ≡ 188 * number_of (packets_per_frame mode) (layer_of setting.now x)) }
-        ensures used { IfOk result (λ i. (x : Which) → 0 < number_of (packets_per_frame mode) (layer_of setting.now x) → (input_of i x).ended ≡ false) }
-        ensures unused { IfOk result (λ i. (x : Which) → number_of (packets_per_frame mode) (layer_of setting.now x) ≡ 0 → (input_of i x).ended ≡ true) }
+    /// Inputs with room for the packets of each frame of the plan. Unused layers have ended.
+    pub fn open(alloc: Global, plan: &Plan) -> Result<Inputs, NoMemory>
+        ensures seats { IfOk result HasSeats }
+        ensures room { IfOk result (λ i. (x : Which) → vec_len (input_of i x).bytes ≡ 188 * most_packets plan.now x) }
+        ensures small { IfOk result (λ i. (x : Which) → most_packets plan.now x ≤ 3276) }
+        ensures none { IfOk result (λ i. (x : Which) → counted (input_of i x) ≡ 0) }
+        ensures used { IfOk result (λ i. (x : Which) → 0 < most_packets plan.now x → (input_of i x).ended ≡ false) }
+        ensures unused { IfOk result (λ i. (x : Which) → most_packets plan.now x ≡ 0 → (input_of i x).ended ≡ true) }
     {
-        let a = LayerInput::open(alloc, Seat::A, setting.packets(Layer::A, mode))?;
-        let b = LayerInput::open(alloc, Seat::B, setting.packets(Layer::B, mode))?;
-        let c = LayerInput::open(alloc, Seat::C, setting.packets(Layer::C, mode))?;
+        let a = LayerInput::open(alloc, Seat::A, plan.most_packets(Layer::A))?;
+        let b = LayerInput::open(alloc, Seat::B, plan.most_packets(Layer::B))?;
+        let c = LayerInput::open(alloc, Seat::C, plan.most_packets(Layer::C))?;
         Ok(Inputs { a, b, c })
     }
 
-    /// Reads the packets of the next frame of each layer, A first. An `Err` is the seat at which a read failed.
-    pub fn read<H: Shelf>(&mut self, shelf: &mut H) -> Result<(), Seat>
+    /// Reads the packets that the next frame places of each layer, A first. An `Err` is the seat at which a read failed.
+    pub fn read<H: Shelf>(&mut self, shelf: &mut H, wanted: &Wanted) -> Result<(), Seat>
         requires seats { HasSeats self.old }
-        requires open { (x : Which) → (input_of self.old x).ended ≡ false → H.is_open shelf.old (seat_of x) ≡ true }
+        requires is_open { (x : Which) → (input_of self.old x).ended ≡ false → H.is_open shelf.old (seat_of x) ≡ true }
+        requires fits { (x : Which) → 188 * wanted_of wanted.now x ≤ vec_len (input_of self.old x).bytes }
+        requires few { (x : Which) → counted (input_of self.old x) ≤ 2 ^ 40 }
         ensures seats { HasSeats self.new }
         ensures room { (x : Which) → vec_len (input_of self.new x).bytes ≡ vec_len (input_of self.old x).bytes }
+        ensures first { OnOk result ((x : Which) → (input_of self.new x).first ≡ counted (input_of self.old x)) }
+        ensures wanted { OnOk result ((x : Which) → (input_of self.new x).wanted ≡ wanted_of wanted.now x) }
         ensures ended { (x : Which) → (input_of self.old x).ended ≡ true → (input_of self.new x).ended ≡ true }
         ensures still_open { H.is_open shelf.new ≡ H.is_open shelf.old }
-        ensures answer { (p : Schedule) (input : Which → List ℕ) (f : ℕ) → IsReady p input f self.old (H.left shelf.old) → ReadAnswer p input f self.new (H.left shelf.new) result }
+        ensures answer { (p : Schedule) (input : Which → List ℕ) (f : ℕ) → ((x : Which) → wanted_of wanted.now x ≡ filled p x f)
+            → IsReady p input f self.old (H.left shelf.old) → ReadAnswer p input f self.new (H.left shelf.new) result }
         ensures cause { InputsCause self.old (H.faults shelf.old) (H.faults shelf.new) result }
     {
-        match self.a.read(shelf) {
+        match self.a.read(shelf, wanted.a) {
             Ok(()) => {}
             Err(Failed) => return Err(Seat::A),
         }
-        match self.b.read(shelf) {
+        match self.b.read(shelf, wanted.b) {
             Ok(()) => {}
             Err(Failed) => return Err(Seat::B),
         }
-        match self.c.read(shelf) {
+        match self.c.read(shelf, wanted.c) {
             Ok(()) => Ok(()),
             Err(Failed) => Err(Seat::C),
         }
@@ -75,5 +89,24 @@ impl Inputs {
         ensures one { result ≡ false → (x : Which) × ((input_of self.now x).ended ≡ false) }
     {
         self.a.ended && self.b.ended && self.c.ended
+    }
+
+    /// Where the last epoch begins at the limit: asks each input that goes on for one byte more, A first. With none there
+    /// are as many frames as the limit.
+    pub fn ask<H: Shelf>(&self, plan: &Plan, limit: u32, shelf: &mut H) -> Result<u32, RemuxFault>
+        requires plan { IsPlan plan.now }
+        requires begins { last_start plan.now ≡ limit }
+        requires stands { Stands plan.now limit self.now (H.is_open shelf.old) }
+        ensures answer { (input : Which → List ℕ) (before after : Option (List ℕ)) → Progress plan.now input limit limit self.now (H.left shelf.old) before after
+            → RemuxAnswer plan.now input limit before after (H.left shelf.new) result }
+        ensures still_open { H.is_open shelf.new ≡ H.is_open shelf.old }
+        ensures cause { (sink : ℕ) → RemuxCause plan.now (H.faults shelf.old) (H.faults shelf.new) sink sink result }
+        ensures reached { (room : Option ℕ) (written : Option (List ℕ)) → AnswerRoom remux_kind room written result }
+    {
+        let _plan = plan;
+        self.a.ask(shelf)?;
+        self.b.ask(shelf)?;
+        self.c.ask(shelf)?;
+        Ok(limit)
     }
 }

@@ -4,13 +4,17 @@
 //! packets. After the frames with input packets come as many frames of null packets as the receiver delays a packet.
 #![tactic(auto)]
 
+mod buffers;
+mod epochs;
 mod fault;
 mod frame;
 mod inputs;
+mod last_epoch;
 mod layer_input;
 mod packets;
 mod refusal;
 mod remultiplex;
+mod wanted;
 
 pub use fault::RemuxFault;
 pub use remultiplex::remux;

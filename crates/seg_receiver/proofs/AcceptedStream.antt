@@ -20,8 +20,8 @@ use Rattle.coder_core.specs.FrameChecks.{refusal}
 use Rattle.coder_core.specs.InputFrames.{first_head, slots_at, packets_before, frame_start, frame_at}
 use Rattle.coder_core.specs.CodeRefusals.{search_limit, packet_refusal, looked_at, no_head, search_refusal, has_byte_of, truncated, frame_refusal, code_refusal, is_there}
 use Rattle.coder_core.proofs.FirstCauses.{no_cause}
-use Rattle.coder_core.proofs.PlainFrames.{refusal-found, there-found}
-use Rattle.coder_core.proofs.PlanEpochs.{setting_accepted, at_countdown-le}
+use Rattle.coder_core.proofs.FoundHead.{refusal-found, there-found}
+use Rattle.isdbt_base.proofs.PlanEpochs.{setting_accepted, at_countdown-le}
 use Rattle.coder_core.proofs.SearchEnds.{empty_input}
 use Rattle.remux_core.specs.Multiplex.{broadcast, frame_tag, multiplexed, written_frame}
 use Rattle.remux_core.specs.Parts.{IsGood}

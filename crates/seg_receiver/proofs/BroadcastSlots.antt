@@ -22,7 +22,7 @@ use Rattle.frame_order.specs.Order.{mark_at, slot_of}
 use Rattle.frame_order.specs.Places.{IsInFrame}
 use Rattle.frame_order.specs.OrderedFrame.{marked_packet, ordered_frame}
 use Rattle.frame_order.proofs.OrderLaws.{mark_at-some, mark_at-slot, slot_of-below, slot_of-layer}
-use Rattle.frame_order.proofs.FrameBytes.{HasWholePackets, length-ordered_frame}
+use Rattle.frame_order.proofs.FrameBytes.{HasWholePackets, ordered_frame-null, length-ordered_frame}
 use Rattle.coder_core.specs.FrameChecks.{information_in, same_layer, layer_slots}
 use Rattle.coder_core.specs.InputFrames.{packet_in, bears_head}
 use Rattle.seg_receiver.proofs.Pieces.{length-pieces}
@@ -75,43 +75,44 @@ layer-information tag layer slot h = ap named_layer (top (indicator layer) tag.c
 -- ---- the packet in a slot
 
 abbrev pub slot_packet : Mode → Guard → Parameters → Tag → (Layer → ℕ → List ℕ) → ℕ → List ℕ
-slot_packet mode guard s tag packet k = broadcast_packet (marked_packet packet (mark_at mode guard s k)) tag (option_map (λ m. m.layer) (mark_at mode guard s k)) k
+slot_packet mode guard s tag packet k = broadcast_packet (marked_packet null_packet packet (mark_at mode guard s k)) tag (option_map (λ m. m.layer) (mark_at mode guard s k)) k
 
 -- packets of 188 bytes, by layer and index
-pub length-marked : (mode : Mode) (guard : Guard) (s : Parameters) (packet : Layer → ℕ → List ℕ) → HasWholePackets mode s packet → (k : ℕ) → length (marked_packet packet (mark_at mode guard s k)) ≡ 188
+pub length-marked : (mode : Mode) (guard : Guard) (s : Parameters) (packet : Layer → ℕ → List ℕ) → HasWholePackets mode s packet → (k : ℕ) → length (marked_packet null_packet packet (mark_at mode guard s k)) ≡ 188
 length-marked mode guard s packet h k = go (mark_at mode guard s k) refl
   where
-    go : (o : Option Mark) → mark_at mode guard s k ≡ o → length (marked_packet packet o) ≡ 188
+    go : (o : Option Mark) → mark_at mode guard s k ≡ o → length (marked_packet null_packet packet o) ≡ 188
     go None e = length-null_packet
     go (Some m) e = h m (mark_at-some mode guard s k m e).0
 
 length-slot_packet : (mode : Mode) (guard : Guard) (s : Parameters) (tag : Tag) (packet : Layer → ℕ → List ℕ) → HasWholePackets mode s packet → (k : ℕ) → length (slot_packet mode guard s tag packet k) ≡ 204
-length-slot_packet mode guard s tag packet h k = length-broadcast_packet (marked_packet packet (mark_at mode guard s k)) tag (option_map (λ m. m.layer) (mark_at mode guard s k)) k (length-marked mode guard s packet h k)
+length-slot_packet mode guard s tag packet h k = length-broadcast_packet (marked_packet null_packet packet (mark_at mode guard s k)) tag (option_map (λ m. m.layer) (mark_at mode guard s k)) k (length-marked mode guard s packet h k)
 
 -- piece k of the frame is the broadcast packet of slot k
 pub piece-ordered_frame : (mode : Mode) (guard : Guard) (s : Parameters) (tag : Tag) (packet : Layer → ℕ → List ℕ) → HasWholePackets mode s packet → (k : ℕ) → k < slots_per_frame mode guard
-    → piece 204 (ordered_frame mode guard s tag packet) k ≡ slot_packet mode guard s tag packet k
-unfolding ordered_frame broadcast_frame
+    → piece 204 (ordered_frame mode guard s tag null_packet packet) k ≡ slot_packet mode guard s tag packet k
+unfolding broadcast_frame
 piece-ordered_frame mode guard s tag packet h k lt =
-    cut_at (slot_packet mode guard s tag packet) (slots_per_frame mode guard) k (204 * k) 204 lt
+    ap (λ xs. piece 204 xs k) (ordered_frame-null mode guard s tag packet)
+    ∙ cut_at (slot_packet mode guard s tag packet) (slots_per_frame mode guard) k (204 * k) 204 lt
     (let e = length-pieces (slot_packet mode guard s tag packet) 204 0 k (length-slot_packet mode guard s tag packet h) in omega (arith, e))
     (length-slot_packet mode guard s tag packet h k)
 
 -- the first packet bears the head
 pub head-ordered_frame : (mode : Mode) (guard : Guard) (s : Parameters) (tag : Tag) (packet : Layer → ℕ → List ℕ) → HasWholePackets mode s packet → 0 < slots_per_frame mode guard
-    → bears_head (piece 204 (ordered_frame mode guard s tag packet) 0) ≡ true
+    → bears_head (piece 204 (ordered_frame mode guard s tag null_packet packet) 0) ≡ true
 head-ordered_frame mode guard s tag packet h lt =
     ap bears_head (piece-ordered_frame mode guard s tag packet h 0 lt)
-    ∙ ap has_head (packet-information (marked_packet packet (mark_at mode guard s 0)) tag (option_map (λ m. m.layer) (mark_at mode guard s 0)) 0 (length-marked mode guard s packet h 0))
+    ∙ ap has_head (packet-information (marked_packet null_packet packet (mark_at mode guard s 0)) tag (option_map (λ m. m.layer) (mark_at mode guard s 0)) 0 (length-marked mode guard s packet h 0))
     ∙ head-information tag (option_map (λ m. m.layer) (mark_at mode guard s 0))
 
 -- the layer that slot k names
 named-ordered_frame : (mode : Mode) (guard : Guard) (s : Parameters) (tag : Tag) (packet : Layer → ℕ → List ℕ) → HasWholePackets mode s packet → tag.countdown ≤ 15 → (k : ℕ) → k < slots_per_frame mode guard
-    → layer_named (information_in (ordered_frame mode guard s tag packet) k) ≡ option_map (λ m. m.layer) (mark_at mode guard s k)
+    → layer_named (information_in (ordered_frame mode guard s tag null_packet packet) k) ≡ option_map (λ m. m.layer) (mark_at mode guard s k)
 named-ordered_frame mode guard s tag packet h c k lt =
     let layer = option_map (λ m. m.layer) (mark_at mode guard s k) in
     ap (λ xs. layer_named (take 8 (drop 188 xs))) (piece-ordered_frame mode guard s tag packet h k lt)
-    ∙ ap layer_named (packet-information (marked_packet packet (mark_at mode guard s k)) tag layer k (length-marked mode guard s packet h k))
+    ∙ ap layer_named (packet-information (marked_packet null_packet packet (mark_at mode guard s k)) tag layer k (length-marked mode guard s packet h k))
     ∙ layer-information tag layer k c
 
 -- ---- the slots of a layer
@@ -165,10 +166,10 @@ slots-kept mode guard s x h = record {
 
 -- the slots that name a layer are those of its packets, in order
 pub layer_slots-ordered_frame : (mode : Mode) (guard : Guard) (s : Parameters) (tag : Tag) (packet : Layer → ℕ → List ℕ) (x : Layer) → IsAccepted s → HasWholePackets mode s packet → tag.countdown ≤ 15
-    → layer_slots (ordered_frame mode guard s tag packet) x ≡ map (λ j. slot_of mode guard s (mark x j)) (range_with_len 0 (layer_size mode s x))
+    → layer_slots (ordered_frame mode guard s tag null_packet packet) x ≡ map (λ j. slot_of mode guard s (mark x j)) (range_with_len 0 (layer_size mode s x))
 layer_slots-ordered_frame mode guard s tag packet x h whole c =
-    let frame = ordered_frame mode guard s tag packet in
-    let slots : length frame / 204 ≡ slots_per_frame mode guard = (let e = length-ordered_frame mode guard s tag packet whole in count (length frame) (slots_per_frame mode guard) e) in
+    let frame = ordered_frame mode guard s tag null_packet packet in
+    let slots : length frame / 204 ≡ slots_per_frame mode guard = (let e = length-ordered_frame mode guard s tag null_packet packet length-null_packet whole in count (length frame) (slots_per_frame mode guard) e) in
     ap (λ n. filter (λ k. same_layer x (layer_named (information_in frame k))) (range_with_len 0 n)) slots
     ∙ filter-same (λ k. same_layer x (layer_named (information_in frame k))) (has_layer mode guard s x) 0 (slots_per_frame mode guard) (λ k l m.
     ap (same_layer x) (named-ordered_frame mode guard s tag packet whole c k (omega (arith, m))))
@@ -179,13 +180,13 @@ layer_slots-ordered_frame mode guard s tag packet x h whole c =
 
 -- packet j of a layer is found
 pub packet_in-ordered_frame : (mode : Mode) (guard : Guard) (s : Parameters) (tag : Tag) (packet : Layer → ℕ → List ℕ) (x : Layer) (j : ℕ) → IsAccepted s → HasWholePackets mode s packet → tag.countdown ≤ 15
-    → IsInFrame mode s (mark x j) → packet_in (ordered_frame mode guard s tag packet) x j ≡ packet x j
+    → IsInFrame mode s (mark x j) → packet_in (ordered_frame mode guard s tag null_packet packet) x j ≡ packet x j
 unfolding packet_in
 packet_in-ordered_frame mode guard s tag packet x j h whole c lt =
-    let frame = ordered_frame mode guard s tag packet in
+    let frame = ordered_frame mode guard s tag null_packet packet in
     let slot = slot_of mode guard s (mark x j) in
     ap (λ xs. take 188 (piece 204 frame (slice_index xs j))) (layer_slots-ordered_frame mode guard s tag packet x h whole c)
     ∙ ap (λ k. take 188 (piece 204 frame k)) (get_or-map-range_with_len (λ j. slot_of mode guard s (mark x j)) 0 (layer_size mode s x) j j 0 lt (omega arith))
     ∙ ap (take 188) (piece-ordered_frame mode guard s tag packet whole slot (slot_of-below mode guard s h (mark x j) lt))
-    ∙ ap (λ o. take 188 (broadcast_packet (marked_packet packet o) tag (option_map (λ m. m.layer) o) slot)) (mark_at-slot mode guard s h (mark x j) lt)
+    ∙ ap (λ o. take 188 (broadcast_packet (marked_packet null_packet packet o) tag (option_map (λ m. m.layer) o) slot)) (mark_at-slot mode guard s h (mark x j) lt)
     ∙ packet-front (packet x j) tag (Some x) slot (whole (mark x j) lt)

@@ -23,7 +23,7 @@ use Rattle.layer_chain.proofs.CellNumbers.{cell_bits_at-lt}
 use Rattle.layer_chain.proofs.CleanWords.{clean_word}
 use Rattle.layer_chain.proofs.StableWords.{unit_word-same}
 use Rattle.coder_core.specs.SentCells.{epoch_packet, layer_cell_at, epoch_cell, frame_cells}
-use Rattle.coder_core.proofs.PlanEpochs.{epoch_start-le, same_epoch, setting_accepted}
+use Rattle.isdbt_base.proofs.PlanEpochs.{epoch_start-le, same_epoch, setting_accepted}
 use Rattle.coder_core.proofs.SegmentCells.{carriers-positive, layer-symbol_cell}
 use Rattle.seg_receiver.specs.CellStream.{stream_cell, View, first_version}
 use Rattle.seg_receiver.specs.Received.{place_bits}

@@ -24,7 +24,7 @@ use Rattle.coder_core.specs.SentCells.{frame_cells}
 use Rattle.coder_core.specs.CodeRefusals.{search_refusal, has_byte_of, truncated, frame_refusal, refusal_from, code_refusal, there_from, is_there, frames_from, coded_frame}
 use Rattle.coder_core.proofs.Codable.{can_code}
 use Rattle.coder_core.proofs.Gathered.{synced}
-use Rattle.coder_core.proofs.PlainFrames.{there-found}
+use Rattle.coder_core.proofs.FoundHead.{there-found}
 use Rattle.seg_receiver.specs.CellStream.{first_version}
 use Rattle.seg_receiver.specs.Delivered.{SendsIn, ArePackets, IsNear}
 use Rattle.seg_receiver.proofs.FoundFrames.{product-same}

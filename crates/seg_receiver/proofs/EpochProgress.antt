@@ -1,5 +1,6 @@
 -- How far the frames of an epoch have come.
 use Rattle.std.proofs.Common.{◌≡◌, ℕ, suc, ◌+◌, ◌-◌, ◌<◌, Bool, true, false, List, [], ◌∷◌, length, take, refl, ap, sym, ◌∙◌, subst, arith}
+use Rattle.ts_packet.specs.Packets.{null_packet}
 use Rattle.std.specs.Prelude.{Some, None, Ok, ◌==◌, if◌then◌else◌}
 use Rattle.std.specs.Int.{from_bool}
 use Rattle.std.specs.declared.option.Option.{Option}
@@ -77,10 +78,10 @@ module _ (v : View) where
       let packets = received_packets v f in
       let due = λ (x : _) (j : ℕ). setting_packet mode v.cell start (start + h) word.0.now x j (layer_of word.0.now x) in
       ap (word_frame mode guard (epoch_start v.word f) f packets) is
-      ∙ ap (λ u. ordered_frame mode guard word.0.now (tag_read word u f) packets) begun
-      ∙ ordered_frame-same mode guard word.0.now (tag_read word start f) packets due
+      ∙ ap (λ u. ordered_frame mode guard word.0.now (tag_read word u f) null_packet packets) begun
+      ∙ ordered_frame-same mode guard word.0.now (tag_read word start f) null_packet packets due
       (λ m inside. packet-is f start word m.layer m.index is begun ∙ ap (λ g. setting_packet mode v.cell start g word.0.now m.layer m.index (layer_of word.0.now m.layer)) (sym place))
-      ∙ ap (λ b. ordered_frame mode guard word.0.now (record { odd = word.1; first = b; start_up = word.0.start_up; countdown = word.0.countdown }) due) same
+      ∙ ap (λ b. ordered_frame mode guard word.0.now (record { odd = word.1; first = b; start_up = word.0.start_up; countdown = word.0.countdown }) null_packet due) same
 
   pub is-given : (f start h : ℕ) (word : TmccFields × Bool) (first : Bool) (m : Mode) (g : Guard) (s : Parameters) → m ≡ v.mode f → g ≡ v.guard f → s ≡ word.0.now
       → read (v.word f) ≡ Ok word → epoch_start v.word f ≡ start → start + h ≡ f → (start == f) ≡ first

@@ -1,5 +1,6 @@
 -- What `code` finds in the broadcast packets of a plan's frames, and the cells of it.
 use Rattle.std.proofs.Common.{◌≡◌, ℕ, ◌+◌, ◌-◌, ◌*◌, ◌/◌, ◌<◌, List, length, take, drop, Some, arith, ap, sym, ◌∙◌, inl, inr}
+use Rattle.ts_packet.proofs.PieceLaws.{length-null_packet}
 use Rattle.std.specs.Prelude.{sum_by, min, true}
 use Rattle.std.specs.List.{range_with_len}
 use Rattle.std.proofs.lemmas.List.{take-take, length-take, length-drop}
@@ -15,13 +16,13 @@ use Rattle.isdbt_base.specs.Outcome.{product}
 use Rattle.isdbt_base.proofs.OptionLaws.{option_cases}
 use Rattle.isdbt_base.proofs.NumberLaws.{total-below_slots}
 use Rattle.isdbt_base.proofs.RangeLaws.{flat_map-same}
-use Rattle.ts_packet.specs.Packets.{piece, piece_count}
+use Rattle.ts_packet.specs.Packets.{piece, piece_count, null_packet}
 use Rattle.frame_order.proofs.FrameBytes.{HasWholePackets, length-ordered_frame}
 use Rattle.coder_core.specs.InputFrames.{bears_head, first_head, slots_at, packets_before, frame_start, frame_at, packet_in, input_frames}
 use Rattle.coder_core.specs.SentCells.{frame_cells}
 use Rattle.coder_core.specs.CodeRefusals.{frames_from, coded_frame}
 use Rattle.isdbt_base.proofs.Finding.{find-first_of}
-use Rattle.coder_core.proofs.PlanEpochs.{setting_accepted, at_countdown-le}
+use Rattle.isdbt_base.proofs.PlanEpochs.{setting_accepted, at_countdown-le}
 use Rattle.coder_core.proofs.StablePlan.{frame_cells-same}
 use Rattle.remux_core.specs.Multiplex.{broadcast, frame_tag}
 use Rattle.seg_receiver.specs.CellStream.{first_version}
@@ -46,7 +47,7 @@ whole_packets p frames count f sizes h m in_m =
 pub length-broadcast : (p : Schedule) (frames : FramePackets) (count f : ℕ) → HaveSize p frames count → f < count → length (broadcast p frames f) ≡ 204 * slots_at p f
 unfolding broadcast
 length-broadcast p frames count f sizes h =
-    length-ordered_frame (at_frame p f).mode (at_frame p f).guard (at_frame p f).setting (frame_tag (at_frame p f) f) (frames f) (whole_packets p frames count f sizes h)
+    length-ordered_frame (at_frame p f).mode (at_frame p f).guard (at_frame p f).setting (frame_tag (at_frame p f) f) null_packet (frames f) length-null_packet (whole_packets p frames count f sizes h)
 
 pub slots-positive : (p : Schedule) (f : ℕ) → IsPlan p → 0 < slots_at p f
 slots-positive p f plan = (let e = total-below_slots (at_frame p f).mode (at_frame p f).guard (at_frame p f).setting (setting_accepted p f plan) in omega (arith, e))

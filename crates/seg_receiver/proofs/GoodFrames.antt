@@ -1,5 +1,6 @@
 -- A frame of broadcast packets is not refused.
 use Rattle.std.proofs.Common.{◌≡◌, ℕ, ◌+◌, ◌*◌, ◌/◌, ◌%◌, ◌^◌, ◌≤◌, ◌<◌, Bool, true, false, List, [], ◌∷◌, ◌++◌, length, take, drop, replicate, Option, Some, None, refl, arith, ap, ◌∙◌, length-append}
+use Rattle.ts_packet.proofs.PieceLaws.{length-null_packet}
 use Rattle.std.specs.Prelude.{slice_index, not, ◌==◌, if◌then◌else◌}
 use Rattle.std.specs.Int.{from_bool}
 use Rattle.std.specs.Option.{option_map}
@@ -37,10 +38,10 @@ null-sync : slice_index null_packet 0 ≡ sync_byte
 unfolding null_packet
 null-sync = refl
 
-marked-sync : (mode : Mode) (guard : Guard) (s : Parameters) (packet : Layer → ℕ → List ℕ) → HasSyncBytes mode s packet → (k : ℕ) → slice_index (marked_packet packet (mark_at mode guard s k)) 0 ≡ sync_byte
+marked-sync : (mode : Mode) (guard : Guard) (s : Parameters) (packet : Layer → ℕ → List ℕ) → HasSyncBytes mode s packet → (k : ℕ) → slice_index (marked_packet null_packet packet (mark_at mode guard s k)) 0 ≡ sync_byte
 marked-sync mode guard s packet h k = go (mark_at mode guard s k) refl
   where
-    go : (o : Option Mark) → mark_at mode guard s k ≡ o → slice_index (marked_packet packet o) 0 ≡ sync_byte
+    go : (o : Option Mark) → mark_at mode guard s k ≡ o → slice_index (marked_packet null_packet packet o) 0 ≡ sync_byte
     go None e = null-sync
     go (Some m) e = h m (mark_at-some mode guard s k m e).0
 
@@ -52,10 +53,10 @@ packet-first packet tag layer slot e =
 
 -- the packet in each slot begins with the sync byte
 pub sync-slot : (mode : Mode) (guard : Guard) (s : Parameters) (tag : Tag) (packet : Layer → ℕ → List ℕ) → HasWholePackets mode s packet → HasSyncBytes mode s packet → (k : ℕ) → k < slots_per_frame mode guard
-    → slice_index (piece 204 (ordered_frame mode guard s tag packet) k) 0 ≡ sync_byte
+    → slice_index (piece 204 (ordered_frame mode guard s tag null_packet packet) k) 0 ≡ sync_byte
 sync-slot mode guard s tag packet whole sync k lt =
     ap (λ xs. slice_index xs 0) (piece-ordered_frame mode guard s tag packet whole k lt)
-    ∙ packet-first (marked_packet packet (mark_at mode guard s k)) tag (option_map (λ m. m.layer) (mark_at mode guard s k)) k (length-marked mode guard s packet whole k)
+    ∙ packet-first (marked_packet null_packet packet (mark_at mode guard s k)) tag (option_map (λ m. m.layer) (mark_at mode guard s k)) k (length-marked mode guard s packet whole k)
     ∙ marked-sync mode guard s packet sync k
 
 -- ---- the head flag
@@ -78,38 +79,38 @@ well_placed true h e = rw e refl
 well_placed false h e = e
 
 head-placed : (mode : Mode) (guard : Guard) (s : Parameters) (tag : Tag) (packet : Layer → ℕ → List ℕ) → HasWholePackets mode s packet → (k : ℕ) → k < slots_per_frame mode guard
-    → is_misplaced (ordered_frame mode guard s tag packet) k ≡ false
+    → is_misplaced (ordered_frame mode guard s tag null_packet packet) k ≡ false
 head-placed mode guard s tag packet whole k lt =
-    well_placed (k == 0) (has_head (information_in (ordered_frame mode guard s tag packet) k))
+    well_placed (k == 0) (has_head (information_in (ordered_frame mode guard s tag null_packet packet) k))
     (ap (λ xs. has_head (take 8 (drop 188 xs))) (piece-ordered_frame mode guard s tag packet whole k lt)
-    ∙ ap has_head (packet-information (marked_packet packet (mark_at mode guard s k)) tag (option_map (λ m. m.layer) (mark_at mode guard s k)) k (length-marked mode guard s packet whole k))
+    ∙ ap has_head (packet-information (marked_packet null_packet packet (mark_at mode guard s k)) tag (option_map (λ m. m.layer) (mark_at mode guard s k)) k (length-marked mode guard s packet whole k))
     ∙ head-slot tag (option_map (λ m. m.layer) (mark_at mode guard s k)) k)
 
 -- ---- the causes
 
-slots-are : (mode : Mode) (guard : Guard) (s : Parameters) (tag : Tag) (packet : Layer → ℕ → List ℕ) → HasWholePackets mode s packet → length (ordered_frame mode guard s tag packet) / 204 ≡ slots_per_frame mode guard
-slots-are mode guard s tag packet whole = (let e = length-ordered_frame mode guard s tag packet whole in count (length (ordered_frame mode guard s tag packet)) (slots_per_frame mode guard) e)
+slots-are : (mode : Mode) (guard : Guard) (s : Parameters) (tag : Tag) (packet : Layer → ℕ → List ℕ) → HasWholePackets mode s packet → length (ordered_frame mode guard s tag null_packet packet) / 204 ≡ slots_per_frame mode guard
+slots-are mode guard s tag packet whole = (let e = length-ordered_frame mode guard s tag null_packet packet length-null_packet whole in count (length (ordered_frame mode guard s tag null_packet packet)) (slots_per_frame mode guard) e)
   where
     count : (n slots : ℕ) → n ≡ 204 * slots → n / 204 ≡ slots
     count n slots e = omega (arith, e)
 
-no_bad_sync : (mode : Mode) (guard : Guard) (s : Parameters) (tag : Tag) (packet : Layer → ℕ → List ℕ) → HasWholePackets mode s packet → HasSyncBytes mode s packet → bad_sync_slot (ordered_frame mode guard s tag packet) ≡ None
+no_bad_sync : (mode : Mode) (guard : Guard) (s : Parameters) (tag : Tag) (packet : Layer → ℕ → List ℕ) → HasWholePackets mode s packet → HasSyncBytes mode s packet → bad_sync_slot (ordered_frame mode guard s tag null_packet packet) ≡ None
 no_bad_sync mode guard s tag packet whole sync =
-    let frame = ordered_frame mode guard s tag packet in
+    let frame = ordered_frame mode guard s tag null_packet packet in
     let slots = slots-are mode guard s tag packet whole in
     find-none_of (λ slot. not (slice_index (piece 204 frame slot) 0 == sync_byte)) (length frame / 204)
     (λ k less. ap not (eq-eqb (slice_index (piece 204 frame k) 0) sync_byte (sync-slot mode guard s tag packet whole sync k (omega (arith, less, slots)))))
 
-no_misplaced : (mode : Mode) (guard : Guard) (s : Parameters) (tag : Tag) (packet : Layer → ℕ → List ℕ) → HasWholePackets mode s packet → misplaced_slot (ordered_frame mode guard s tag packet) ≡ None
+no_misplaced : (mode : Mode) (guard : Guard) (s : Parameters) (tag : Tag) (packet : Layer → ℕ → List ℕ) → HasWholePackets mode s packet → misplaced_slot (ordered_frame mode guard s tag null_packet packet) ≡ None
 no_misplaced mode guard s tag packet whole =
-    let frame = ordered_frame mode guard s tag packet in
+    let frame = ordered_frame mode guard s tag null_packet packet in
     let slots = slots-are mode guard s tag packet whole in
     find-none_of (is_misplaced frame) (length frame / 204) (λ k less. head-placed mode guard s tag packet whole k (omega (arith, less, slots)))
 
 counted : (mode : Mode) (guard : Guard) (s : Parameters) (tag : Tag) (packet : Layer → ℕ → List ℕ) (number : ℕ) (x : Layer) → IsAccepted s → HasWholePackets mode s packet → tag.countdown ≤ 15
-    → wrong_count s mode number (ordered_frame mode guard s tag packet) x ≡ None
+    → wrong_count s mode number (ordered_frame mode guard s tag null_packet packet) x ≡ None
 counted mode guard s tag packet number x h whole c =
-    let frame = ordered_frame mode guard s tag packet in
+    let frame = ordered_frame mode guard s tag null_packet packet in
     let e : layer_count frame x ≡ layer_size mode s x = ap length (layer_slots-ordered_frame mode guard s tag packet x h whole c) ∙ length-map-range_with_len _ 0 (layer_size mode s x) in
     none_if (layer_count frame x == layer_size mode s x) (WrongCount number x (layer_count frame x)) (eq-eqb (layer_count frame x) (layer_size mode s x) e)
   where
@@ -123,10 +124,10 @@ none_of_five : (a b c d e : Option CodeFault) → a ≡ None → b ≡ None → 
 none_of_five a b c d e ha hb hc hd he = rw (ha, hb, hc, hd, he) refl
 
 pub refusal-ordered_frame : (mode : Mode) (guard : Guard) (s : Parameters) (tag : Tag) (packet : Layer → ℕ → List ℕ) (number first : ℕ) → IsAccepted s → HasWholePackets mode s packet → HasSyncBytes mode s packet → tag.countdown ≤ 15
-    → refusal s mode number first (ordered_frame mode guard s tag packet) ≡ None
+    → refusal s mode number first (ordered_frame mode guard s tag null_packet packet) ≡ None
 unfolding refusal
 refusal-ordered_frame mode guard s tag packet number first h whole sync c =
-    let frame = ordered_frame mode guard s tag packet in
+    let frame = ordered_frame mode guard s tag null_packet packet in
     none_of_five (bad_sync first frame) (misplaced number frame) (wrong_count s mode number frame A) (wrong_count s mode number frame B) (wrong_count s mode number frame C)
     (unmapped _ (bad_sync_slot frame) (no_bad_sync mode guard s tag packet whole sync))
     (unmapped _ (misplaced_slot frame) (no_misplaced mode guard s tag packet whole))

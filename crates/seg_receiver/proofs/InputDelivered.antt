@@ -10,7 +10,7 @@ use Rattle.isdbt_base.specs.Plans.{Transmission, Schedule, Switch, at_frame, at_
 use Rattle.isdbt_base.specs.Epochs.{leaves_after}
 use Rattle.isdbt_base.proofs.OptionLaws.{option_cases}
 use Rattle.ts_packet.specs.Packets.{piece}
-use Rattle.coder_core.proofs.PlanEpochs.{SameEpoch, epoch_start-le}
+use Rattle.isdbt_base.proofs.PlanEpochs.{SameEpoch, epoch_start-le}
 use Rattle.remux_core.specs.Multiplex.{layer_at, filled, placed_before, multiplexed, packet_count, frame_delay}
 use Rattle.remux_core.specs.Answers.{IsPlacedIn}
 use Rattle.seg_receiver.specs.Delivered.{into_epoch, IsDelivered}

@@ -1,5 +1,6 @@
 -- Near cells of a plan are received as the plan's packets, each put off by its layer's delay.
 use Rattle.std.proofs.Common.{◌≡◌, ℕ, zero, suc, ◌+◌, ◌-◌, ◌*◌, ◌%◌, ◌≤◌, ◌<◌, Bool, List, refl, arith, ap, sym, ◌∙◌, subst, inl, inr, Some, Ok}
+use Rattle.ts_packet.specs.Packets.{null_packet}
 use Rattle.std.specs.Prelude.{if◌then◌else◌, ◌==◌, length}
 use Rattle.std.proofs.lemmas.Bool.Decides.{leb_tells}
 use Rattle.isdbt_base.proofs.OptionLaws.{option_cases}
@@ -17,7 +18,7 @@ use Rattle.tmcc_word.specs.Reading.{read}
 use Rattle.layer_chain.specs.OuterWords.{outer_word, unit_answer, given_out}
 use Rattle.layer_chain.proofs.NearAnswers.{near_answer}
 use Rattle.coder_core.specs.SentCells.{plan_word, plan_info}
-use Rattle.coder_core.proofs.PlanEpochs.{epoch_start-le, same_epoch}
+use Rattle.isdbt_base.proofs.PlanEpochs.{epoch_start-le, same_epoch}
 use Rattle.coder_core.proofs.PlanWords.{read-plan_word}
 use Rattle.remux_core.specs.Multiplex.{broadcast, frame_tag}
 use Rattle.seg_receiver.specs.CellStream.{View}
@@ -103,8 +104,8 @@ received_frame-near v p frames count plan packets near f h =
     ap (λ m. word_frame m (v.guard f) (epoch_start v.word f) f got (read (v.word f))) (near.modes f h)
     ∙ ap (λ g. word_frame mode g (epoch_start v.word f) f got (read (v.word f))) (near.guards f h)
     ∙ ap (word_frame mode guard (epoch_start v.word f) f got) word
-    ∙ ap (λ u. ordered_frame mode guard s (tag_read (plan_info p f, f % 2 == 1) u f) got) begun
-    ∙ ordered_frame-same mode guard s tag got due (λ m k. received_packets-near v p frames count m.layer plan packets (near.close m.layer) f m.index h (near.modes f h) same k)
+    ∙ ap (λ u. ordered_frame mode guard s (tag_read (plan_info p f, f % 2 == 1) u f) null_packet got) begun
+    ∙ ordered_frame-same mode guard s tag null_packet got due (λ m k. received_packets-near v p frames count m.layer plan packets (near.close m.layer) f m.index h (near.modes f h) same k)
 
 -- near cells of a plan are delivered
 pub received-near : (v : View) (p : Schedule) (frames : FramePackets) (count : ℕ) → IsPlan p → ArePackets p frames count → IsNear v p frames count → received v count ≡ delivered p frames count

@@ -3,7 +3,7 @@ use Rattle.std.proofs.Common.{◌≡◌, ℕ, suc, refl, arith, ap, sym, ◌∙�
 use Rattle.std.proofs.lemmas.Bool.{cases_lt, ne_eqb}
 use Rattle.isdbt_base.specs.Parameters.{Parameters}
 use Rattle.isdbt_base.specs.Plans.{Transmission, Schedule, Switch, at_frame, at_from, IsPlan, RisesFrom}
-use Rattle.coder_core.proofs.PlanEpochs.{epoch_start-le, same_epoch}
+use Rattle.isdbt_base.proofs.PlanEpochs.{epoch_start-le, same_epoch}
 use Rattle.seg_receiver.proofs.EpochStarts.{at_from-after, at_from-before, countdown-other, epoch_start-suc}
 
 setting-own : (first : Parameters) (t : Transmission) (start : ℕ) (ws : List Switch) → RisesFrom start first ws → (at_from t start ws start).setting ≡ t.setting

@@ -16,7 +16,7 @@ use Rattle.tmcc_word.specs.Reading.{read}
 use Rattle.layer_chain.specs.OuterWords.{given_out}
 use Rattle.layer_chain.proofs.StableWords.{given_out-same}
 use Rattle.coder_core.specs.SentCells.{plan_info}
-use Rattle.coder_core.proofs.PlanEpochs.{setting_accepted}
+use Rattle.isdbt_base.proofs.PlanEpochs.{setting_accepted}
 use Rattle.coder_core.proofs.PlanWords.{read-plan_word}
 use Rattle.seg_receiver.specs.CellStream.{FrameCells, segment_cells, View}
 use Rattle.seg_receiver.specs.Received.{epoch_start, place_bits, partial_packets, word_partial, partial_frame, received_partial}

@@ -11,7 +11,7 @@ use Rattle.isdbt_base.specs.LayerParameters.{LayerParameters}
 use Rattle.isdbt_base.specs.Parameters.{Parameters, IsAccepted, layer_of, number_of, sum_before}
 use Rattle.isdbt_base.specs.Numbers.{carriers, layer_cells, packets_per_frame, first_segment}
 use Rattle.isdbt_base.proofs.OptionLaws.{option_cases}
-use Rattle.ts_packet.specs.Packets.{piece_or_null}
+use Rattle.ts_packet.specs.Packets.{piece_or_null, null_packet}
 use Rattle.bts_info.specs.Fields.{Tag}
 use Rattle.frame_order.specs.declared.layer_packets.LayerPackets.{LayerPackets}
 use Rattle.frame_order.specs.LayerBytes.{layer_packet}
@@ -81,9 +81,9 @@ gives_layer mode s x p cell start h bytes m l e has =
 -- the frame of three layers' packets
 pub frame-given : (mode : Mode) (guard : Guard) (s : Parameters) (tag : Tag) (packets : LayerPackets) (cell : FrameCells) (start h : ℕ) →
     GivesLayer mode s A cell start h packets.a.now → GivesLayer mode s B cell start h packets.b.now → GivesLayer mode s C cell start h packets.c.now
-    → ordered_frame mode guard s tag (layer_packet packets) ≡ ordered_frame mode guard s tag (λ x j. setting_packet mode cell start (start + h) s x j (layer_of s x))
+    → ordered_frame mode guard s tag null_packet (layer_packet packets) ≡ ordered_frame mode guard s tag null_packet (λ x j. setting_packet mode cell start (start + h) s x j (layer_of s x))
 frame-given mode guard s tag packets cell start h a b c =
-    ordered_frame-same mode guard s tag (layer_packet packets) (λ x j. setting_packet mode cell start (start + h) s x j (layer_of s x)) (λ m inside. at m.layer m.index inside)
+    ordered_frame-same mode guard s tag null_packet (layer_packet packets) (λ x j. setting_packet mode cell start (start + h) s x j (layer_of s x)) (λ m inside. at m.layer m.index inside)
   where
     at : (x : Layer) (j : ℕ) → j < number_of (packets_per_frame mode) (layer_of s x) → layer_packet packets x j ≡ setting_packet mode cell start (start + h) s x j (layer_of s x)
     at A j less = a.each j less

@@ -1,5 +1,6 @@
 -- What is given out in a frame depends on the words and cells of the frames up to it, whatever they say.
 use Rattle.std.proofs.Common.{◌≡◌, ℕ, zero, suc, ◌+◌, ◌-◌, ◌/◌, ◌%◌, ◌≤◌, ◌<◌, Bool, List, refl, arith, ap, sym, ◌∙◌, subst, inl, inr, Some, Ok}
+use Rattle.ts_packet.specs.Packets.{null_packet}
 use Rattle.std.specs.Prelude.{if◌then◌else◌, ◌==◌}
 use Rattle.std.proofs.lemmas.Nat.{div_below, mod_below}
 use Rattle.std.proofs.lemmas.Bool.{cond_both}
@@ -87,8 +88,8 @@ received_frame-same v w f alike =
       | inl word ↦ (let i = word.0 in
           let too = same ∙ word.1 in
           ap (word_frame mode guard (epoch_start v.word f) f got) word.1
-          ∙ ap (λ u. ordered_frame mode guard i.0.now (tag_read i u f) got) start
-          ∙ ordered_frame-same mode guard i.0.now (tag_read i begun f) got due (λ m k. received_packets-same v w f m.index m.layer i alike word.1 too start k)
+          ∙ ap (λ u. ordered_frame mode guard i.0.now (tag_read i u f) null_packet got) start
+          ∙ ordered_frame-same mode guard i.0.now (tag_read i begun f) null_packet got due (λ m k. received_packets-same v w f m.index m.layer i alike word.1 too start k)
           ∙ sym (ap (word_frame mode guard begun f due) too))
     ]
     ∙ ap (λ m. word_frame m guard begun f due (read (w.word f))) alike.same_mode

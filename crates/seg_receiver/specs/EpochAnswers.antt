@@ -1,5 +1,6 @@
 -- What the parts of the receiving say: a frame, an epoch, and the end at the limit of frames.
 use Rattle.std.specs.Prelude.{◌≡◌, ℕ, suc, ◌+◌, ◌≤◌, ◌<◌, ◌⊎◌, Bool, List, length, take, drop, Some, None, Ok, Err}
+use Rattle.ts_packet.specs.Packets.{null_packet}
 use Rattle.std.specs.declared.option.Option.{Option}
 use Rattle.std.specs.declared.result.Result.{Result}
 use Rattle.isdbt_base.specs.declared.kinds.Mode.{Mode}
@@ -25,7 +26,7 @@ use Rattle.seg_receiver.specs.ReceiveAnswers.{receive_kind, receive_command}
 -- frame h of an epoch, whose word says this
 abbrev pub epoch_frame : Mode → Guard → Parameters → FrameCells → ℕ → ℕ → TmccFields × Bool → Bool → List ℕ
 epoch_frame mode guard s cell start h word first =
-    ordered_frame mode guard s (record { odd = word.1; first = first; start_up = word.0.start_up; countdown = word.0.countdown }) (λ x j. setting_packet mode cell start (start + h) s x j (layer_of s x))
+    ordered_frame mode guard s (record { odd = word.1; first = first; start_up = word.0.start_up; countdown = word.0.countdown }) null_packet (λ x j. setting_packet mode cell start (start + h) s x j (layer_of s x))
 
 -- why a frame is refused of which so many bytes came: some and not all, or its word is refused
 abbrev pub FrameRefused : Mode → Bool → ℕ → Option (TmccFields × Bool) → List ℕ → ℕ → ReceiveFault → Type 0

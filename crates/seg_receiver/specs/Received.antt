@@ -55,7 +55,7 @@ tag_read i start f = record { odd = i.1; first = start == f; start_up = i.0.star
 -- a frame of what its word says, nothing where the word is refused
 abbrev pub word_frame : Mode → Guard → ℕ → ℕ → (Layer → ℕ → List ℕ) → Result (TmccFields × Bool) TmccFault → List ℕ
 word_frame mode guard start f packet (Err e) = []
-word_frame mode guard start f packet (Ok i) = ordered_frame mode guard i.0.now (tag_read i start f) packet
+word_frame mode guard start f packet (Ok i) = ordered_frame mode guard i.0.now (tag_read i start f) null_packet packet
 
 -- output frame f
 unfoldable pub received_frame : View → ℕ → List ℕ

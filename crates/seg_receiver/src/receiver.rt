@@ -11,6 +11,7 @@ use cell_map::Cell;
 use frame_order::{FrameOrder, LayerPackets, order};
 use isdbt_base::{Guard, Layer, Mode, NoMemory, Setting};
 use std::alloc::Global;
+use ts_packet::Packet;
 
 /// Receiver of one epoch, for up to three layers: the decoder of each used layer, and the order of the packets of a
 /// frame.
@@ -46,6 +47,7 @@ impl Receiver {
     ghost use Rattle.std.specs.Prelude.{◌≡◌, ℕ, ◌+◌, ◌*◌, ◌<◌, IfOk, length};
     ghost use Rattle.isdbt_base.specs.Numbers.{carriers, slots_per_frame};
     ghost use Rattle.isdbt_base.specs.Parameters.{layer_of};
+    ghost use Rattle.ts_packet.specs.Packets.{null_packet};
     ghost use Rattle.frame_order.specs.OrderedFrame.{ordered_frame};
     ghost use Rattle.seg_receiver.specs.CellStream.{FrameCells};
     ghost use Rattle.seg_receiver.specs.Received.{setting_packet};
@@ -105,7 +107,7 @@ impl Receiver {
         requires whole { symbols_of self.old ≡ 204 }
         requires room { length out.old ≡ 204 * slots_per_frame (mode_of self.old) (guard_of self.old) }
         ensures frame { (cell : FrameCells) (start h : ℕ) → StandsFor self.old cell start h
-            → out.new ≡ ordered_frame (mode_of self.old) (guard_of self.old) (setting_of self.old) tag.now (λ x j. setting_packet (mode_of self.old) cell start (start + h) (setting_of self.old) x j (layer_of (setting_of self.old) x)) }
+            → out.new ≡ ordered_frame (mode_of self.old) (guard_of self.old) (setting_of self.old) tag.now null_packet (λ x j. setting_packet (mode_of self.old) cell start (start + h) (setting_of self.old) x j (layer_of (setting_of self.old) x)) }
         ensures state { (cell : FrameCells) (start h : ℕ) → StandsFor self.old cell start h → StandsFor self.new cell start (h + 1) }
         ensures symbols { symbols_of self.new ≡ 0 }
         ensures mode { mode_of self.new ≡ mode_of self.old }
@@ -121,6 +123,6 @@ impl Receiver {
             b: self.b.bytes(),
             c: self.c.bytes(),
         };
-        self.order.write(tag, &packets, out);
+        self.order.write(tag, &Packet::null(), &packets, out);
     }
 }

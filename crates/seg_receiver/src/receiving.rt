@@ -53,7 +53,7 @@ fn receive_epochs<H: Shelf, K: Sink>(
 
 /// Receives the stream of cells at the seat In, of this mode and guard interval, at most `limit` frames, and answers how many
 /// were written. For each frame of cells one frame of broadcast packets is written: each layer's packets as many frames late
-/// as the layer's delay, with null packets before (after ARIB STD-B31 5.5). All else is said by the TMCC word of each frame:
+/// as the layer's delay, with null packets before. All else is said by the TMCC word of each frame:
 /// the setting, and by the countdown where an epoch ends; at each epoch a new receiver begins. Frame after frame is read,
 /// checked, received and written, and each symbol is worked on as it is read; only the first frame of an epoch is held
 /// whole, as its receiver is opened after its checks. No byte past the frame in work is asked for.

@@ -8,7 +8,7 @@ use isdbt_base::Setting;
 use tmcc_word::TmccInfo;
 
 /// The setting that the word of a frame lets expect for the next frame: its next one where its countdown is 0, and else its
-/// present one (ARIB STD-B31 3.15.6.2).
+/// present one (ARIB STD-B31 chapter 3).
 pub fn expected_setting(info: &TmccInfo) -> Option<Setting>
     ensures { result ≡ expected info.entry.now }
 {

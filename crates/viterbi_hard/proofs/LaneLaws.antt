@@ -2,6 +2,7 @@
 use Rattle.std.proofs.Common.{◌≡◌, ℕ, ◌+◌, ◌*◌, ◌++◌, get_or, ◌∷◌, ◌<◌, ◌≤◌, ◌^◌, ◌%◌, ◌/◌, eqb, Bool, true, false, List, [], length, replicate, cond, ◌-◌, map, refl, sym, ◌∙◌, ap, arith, w8, Fits, bit_and, All, Contains}
 use Rattle.std.proofs.lemmas.Bool.{agree_below_at, eq-eqb, eqb-true, eqb-false}
 use Rattle.std.proofs.lemmas.List.{get_or_default, get_or-append-add, get_or-map, get_or-replicate, get_or_append_left, length-replicate}
+use Rattle.std.proofs.lemmas.Grind.{same_number_lists}
 use Rattle.std.proofs.lemmas.Nat.{and_le_r, and_mask}
 use Rattle.std.proofs.lemmas.Simd.{Each1-all, Each1-get_or, Each1-zip2, Each2-splat, SwzOk, SwzOk-from_below, bit_mask_l, bitmask_splat, get_or-swz_l_below, get_or-zip2, length-zip2, pick_l_whole, swz_l, zip2_splat}
 use Rattle.std.specs.List.{range_with_len}
@@ -189,6 +190,20 @@ equal_at v x i long h e =
     let whole : mask_l (map (λ y. eqb y x) v) ≡ 18446744073709551615 = sym (bitmask_splat w8 eqb v 64 x long (omega arith)) ∙ eqb-true _ _ e in
     let one : ◌≡◌ {A = ℕ} (cond (get_or (map (λ y. eqb y x) v) i false) 1 0) 1 = sym (bit_mask_l (map (λ y. eqb y x) v) i) ∙ ap (λ n. n / 2 ^ i % 2) whole ∙ all_ones i h in
     eqb-true _ _ (sym (get_or-map (λ y. eqb y x) v i 0 false (omega arith)) ∙ one_true _ one)
+
+lane_of : (v : List ℕ) (x : ℕ) → ((i : ℕ) → i < 64 → get_or v i 0 ≡ x) → length v ≡ 64 → v ≡ replicate 64 x
+lane_of v x h long =
+    let long' : length (replicate 64 x) ≡ 64 = length-replicate 64 x in
+    same_number_lists v (replicate 64 x) (long ∙ sym long')
+    (λ k less. let lt : k < 64 = omega (arith, less, long) in h k lt ∙ sym (get_or-replicate 64 k x 0 lt))
+
+splat_mask : (x : ℕ) (b : Bool) → eqb x x ≡ b → b ≡ true → mask_l (map (λ y. eqb y x) (replicate 64 x)) ≡ 18446744073709551615
+splat_mask x b e t = rw (e ∙ t) refl
+
+pub all_equal : (v : List ℕ) (x : ℕ) → length v ≡ 64 → ((i : ℕ) → i < 64 → get_or v i 0 ≡ x)
+    → eqb (mask_l (map (top 7) (zip2 (λ a b. cond (eqb a b) (2 ^ 8 - 1) 0) v (replicate 64 x))) % 2 ^ 64) 18446744073709551615 ≡ true
+all_equal v x long h =
+    eq-eqb _ _ (bitmask_splat w8 eqb v 64 x long (omega arith) ∙ ap (λ xs. mask_l (map (λ y. eqb y x) xs)) (lane_of v x h long) ∙ splat_mask x (eqb x x) refl (eq-eqb x x refl))
 
 -- ---- numbers in natural order
 

@@ -96,7 +96,8 @@ pub fn label_of(lane: u8, tag: u8) -> u8
 /// Whether all lanes are as the first.
 #[inline(always)]
 pub fn are_equal(v: u8x64) -> bool
-    ensures { result ≡ true → (i : ℕ) → i < 64 → slice_index v i ≡ slice_index v 0 }
+    ensures equal { result ≡ true → (i : ℕ) → i < 64 → slice_index v i ≡ slice_index v 0 }
+    ensures all { ((i : ℕ) → i < 64 → slice_index v i ≡ slice_index v 0) → result ≡ true }
 {
     let lanes = v.to_array();
     v.simd_eq(u8x64::splat(lanes[0])).to_bitmask() == u64::MAX

@@ -1,20 +1,46 @@
-use Rattle.std.proofs.Common.{◌∙◌, sym, subst, ◌<◌}
-use Rattle.remux_core.specs.Answers.{IsPlain}
-use Rattle.remux_core.proofs.Places.{packets-few, packets-first}
-use Rattle.remux_core.proofs.Draining.{whole_answer}
+use Rattle.std.proofs.Common.{ℕ, subst}
+use Rattle.std.proofs.lemmas.Result.{err_from_is_err_and}
+use Rattle.remux_core.specs.Epoch.{Progress}
+use Rattle.remux_core.proofs.EpochSteps.{cause_after}
+use Rattle.remux_core.proofs.Progress.{begin}
+use Rattle.remux_core.proofs.Standing.{Opened, open-used, open-unused, stands-open}
 use Rattle.remux_core.proofs.remultiplex.remux.Goals as goal
 
-pub write_data-requires-clause-small : goal.write_data-requires-clause-small
-write_data-requires-clause-small g c = λ x. packets-few c.args.plan.now x (record { no_switch = c.requires.no_switch; accepted = c.acceptance_law.ensures.first })
+pub write_epochs-requires-clause-stands : goal.write_epochs-requires-clause-stands
+write_epochs-requires-clause-stands g c =
+    let opened : Opened c.args.plan.now c.in-Ok.inputs =
+    record { plan = c.acceptance_law.ensures; seats = c.in-Ok.ensures.seats; room = c.in-Ok.ensures.room; small = c.in-Ok.ensures.small; none = c.in-Ok.ensures.none; used = c.in-Ok.ensures.used; unused = c.in-Ok.ensures.unused } in
+    stands-open c.args.plan.now c.in-Ok.inputs (g.H.Shelf.is_open c.args.shelf.now) opened c.requires.«open»
 
-pub write_data-requires-clause-used : goal.write_data-requires-clause-used
-write_data-requires-clause-used g c = λ x some. c.in-Ok-open.ensures.used x (subst (λ n. 0 < n) (sym (packets-first c.args.plan.now c.at-at.result x c.requires.no_switch c.at-at.ensures.value)) some)
+pub returns-in_err-start-clause-answer : goal.returns-in_err-start-clause-answer
+returns-in_err-start-clause-answer g c = λ input tells.
+    let opened : Opened c.args.plan.now c.in-Ok.inputs =
+    record { plan = c.acceptance_law.ensures; seats = c.in-Ok.ensures.seats; room = c.in-Ok.ensures.room; small = c.in-Ok.ensures.small; none = c.in-Ok.ensures.none; used = c.in-Ok.ensures.used; unused = c.in-Ok.ensures.unused } in
+    let start = begin c.args.plan.now input c.args.limit c.in-Ok.inputs (g.H.Shelf.left c.args.shelf.now) (g.K.Sink.written c.args.sink.now) (λ x some. open-used c.args.plan.now c.in-Ok.inputs x opened some) (λ x none. open-unused c.args.plan.now c.in-Ok.inputs x opened none) tells in
+    let failed = err_from_is_err_and c.from_residual.result c.from_residual.ensures.1 in
+    rw (failed.1, failed.2) (c.in_err-start.ensures.answer input (g.K.Sink.written c.args.sink.now) start)
 
-pub write_data-requires-clause-unused : goal.write_data-requires-clause-unused
-write_data-requires-clause-unused g c = λ x none. c.in-Ok-open.ensures.unused x (packets-first c.args.plan.now c.at-at.result x c.requires.no_switch c.at-at.ensures.value ∙ none)
+pub returns-then-start-limit-clause-answer : goal.returns-then-start-limit-clause-answer
+returns-then-start-limit-clause-answer g c = λ input tells.
+    let opened : Opened c.args.plan.now c.in-Ok.inputs =
+    record { plan = c.acceptance_law.ensures; seats = c.in-Ok.ensures.seats; room = c.in-Ok.ensures.room; small = c.in-Ok.ensures.small; none = c.in-Ok.ensures.none; used = c.in-Ok.ensures.used; unused = c.in-Ok.ensures.unused } in
+    let start = begin c.args.plan.now input c.args.limit c.in-Ok.inputs (g.H.Shelf.left c.args.shelf.now) (g.K.Sink.written c.args.sink.now) (λ x some. open-used c.args.plan.now c.in-Ok.inputs x opened some) (λ x none. open-unused c.args.plan.now c.in-Ok.inputs x opened none) tells in
+    let so_far = c.in_ok-start.ensures.answer input (g.K.Sink.written c.args.sink.now) start in
+    c.ask.ensures.answer input (g.K.Sink.written c.args.sink.now) (g.K.Sink.written c.write_epochs.new.sink)
+    (subst (λ (f : ℕ). Progress c.args.plan.now input c.args.limit f c.write_epochs.new.buffers.inputs (g.H.Shelf.left c.write_epochs.new.shelf) (g.K.Sink.written c.args.sink.now) (g.K.Sink.written c.write_epochs.new.sink)) c.if-start-limit.true so_far)
+
+pub returns-then-start-limit-clause-cause : goal.returns-then-start-limit-clause-cause
+returns-then-start-limit-clause-cause g c =
+    cause_after c.args.plan.now (g.H.Shelf.faults c.args.shelf.now) (g.H.Shelf.faults c.write_epochs.new.shelf) (g.H.Shelf.faults c.ask.new.shelf) (g.K.Sink.faults c.args.sink.now) (g.K.Sink.faults c.write_epochs.new.sink) (g.K.Sink.faults c.write_epochs.new.sink)
+    c.ask.result c.in_ok-start.ensures.cause.0 c.in_ok-start.ensures.cause.1 (c.ask.ensures.cause (g.K.Sink.faults c.write_epochs.new.sink))
+
+pub returns-then-start-limit-clause-reached : goal.returns-then-start-limit-clause-reached
+returns-then-start-limit-clause-reached g c = c.ask.ensures.reached (g.K.Sink.room c.args.sink.now) (g.K.Sink.written c.write_epochs.new.sink)
 
 pub returns-clause-answer : goal.returns-clause-answer
 returns-clause-answer g c = λ input tells.
-    let plain : IsPlain c.args.plan.now = record { no_switch = c.requires.no_switch; accepted = c.acceptance_law.ensures.first } in
-    let done = c.in_ok-frames.ensures.answer input tells in
-    whole_answer c.args.plan.now input _ _ _ _ _ _ c.drain.result plain tells.unused done (c.drain.ensures.answer input _ tells.unused done.frames_is done.passed done.written)
+    let opened : Opened c.args.plan.now c.in-Ok.inputs =
+    record { plan = c.acceptance_law.ensures; seats = c.in-Ok.ensures.seats; room = c.in-Ok.ensures.room; small = c.in-Ok.ensures.small; none = c.in-Ok.ensures.none; used = c.in-Ok.ensures.used; unused = c.in-Ok.ensures.unused } in
+    let start = begin c.args.plan.now input c.args.limit c.in-Ok.inputs (g.H.Shelf.left c.args.shelf.now) (g.K.Sink.written c.args.sink.now) (λ x some. open-used c.args.plan.now c.in-Ok.inputs x opened some) (λ x none. open-unused c.args.plan.now c.in-Ok.inputs x opened none) tells in
+    let so_far = c.in_ok-start.ensures.answer input (g.K.Sink.written c.args.sink.now) start in
+    c.write_last.ensures.answer input (g.K.Sink.written c.args.sink.now) so_far

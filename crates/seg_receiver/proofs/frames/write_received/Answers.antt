@@ -1,5 +1,6 @@
 use Rattle.std.proofs.Common.{◌≡◌, ℕ, ◌+◌, ◌<◌, length, take, Ok, Err, OnOk, OnErr, ap, subst, ◌∙◌}
 use Rattle.std.specs.declared.result.Result.{Result}
+use Rattle.ts_packet.specs.Packets.{null_packet}
 use Rattle.edge_io.specs.Known.{append_known}
 use Rattle.isdbt_base.specs.Parameters.{layer_of}
 use Rattle.frame_order.specs.OrderedFrame.{ordered_frame}
@@ -20,11 +21,11 @@ pub returns-clause-ok : goal.returns-clause-ok
 returns-clause-ok g c = with_ok c.write_whole.result (λ written cell start h stands.
     let r = c.args.receiver.now in
     written ∙ ap (append_known (g.K.Sink.written c.args.sink.now)) (c.frame.ensures.frame cell start h stands
-    ∙ ap (λ tag. ordered_frame (mode_of r) (guard_of r) (setting_of r) tag (λ x j. setting_packet (mode_of r) cell start (start + h) (setting_of r) x j (layer_of (setting_of r) x))) c.tag_of.ensures)) c.write_whole.ensures.ok
+    ∙ ap (λ tag. ordered_frame (mode_of r) (guard_of r) (setting_of r) tag null_packet (λ x j. setting_packet (mode_of r) cell start (start + h) (setting_of r) x j (layer_of (setting_of r) x))) c.tag_of.ensures)) c.write_whole.ensures.ok
 
 pub returns-clause-some : goal.returns-clause-some
 returns-clause-some g c = with_err c.write_whole.result (λ some cell start h stands.
     let r = c.args.receiver.now in
     subst (λ out. (n : ℕ) × (n < length out) × (g.K.Sink.written c.write_whole.new.sink ≡ append_known (g.K.Sink.written c.args.sink.now) (take n out)))
     (c.frame.ensures.frame cell start h stands
-    ∙ ap (λ tag. ordered_frame (mode_of r) (guard_of r) (setting_of r) tag (λ x j. setting_packet (mode_of r) cell start (start + h) (setting_of r) x j (layer_of (setting_of r) x))) c.tag_of.ensures) some) c.write_whole.ensures.some
+    ∙ ap (λ tag. ordered_frame (mode_of r) (guard_of r) (setting_of r) tag null_packet (λ x j. setting_packet (mode_of r) cell start (start + h) (setting_of r) x j (layer_of (setting_of r) x))) c.tag_of.ensures) some) c.write_whole.ensures.some

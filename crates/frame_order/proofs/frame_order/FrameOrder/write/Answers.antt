@@ -10,7 +10,7 @@ loop-slot-init c = record {
   room = c.requires.room;
   null = c.null-null.ensures.value;
   at = refl;
-  bytes = sym (first_slots-zero c.args.self.now.mode c.args.self.now.guard c.args.self.now.setting c.args.tag.now (layer_packet c.args.packets.now));
+  bytes = sym (first_slots-zero c.args.self.now.mode c.args.self.now.guard c.args.self.now.setting c.args.tag.now c.args.first.now (layer_packet c.args.packets.now));
 }
 
 pub loop-slot-preserved : goal.loop-slot-preserved
@@ -19,12 +19,12 @@ loop-slot-preserved c = record {
   null = c.null-null.ensures.value;
   at = omega arith;
   bytes = rw (c.put-at-in-loop-slot.ensures.items, c.put-at.ensures.items, c.put_packet-at.ensures.bytes, c.loop-slot.invariant.bytes, c.to_bytes-info.ensures.value, c.info_of.ensures, c.layer_of.ensures, c.mark-mark.ensures.value)
-      (first_slots-more c.args.self.now.mode c.args.self.now.guard c.args.self.now.setting c.args.tag.now (layer_packet c.args.packets.now) c.loop-slot.slot);
+      (first_slots-more c.args.self.now.mode c.args.self.now.guard c.args.self.now.setting c.args.tag.now c.args.first.now (layer_packet c.args.packets.now) c.loop-slot.slot);
 }
 
 pub returns : goal.returns
 returns c =
     let end : c.loop-slot.slot ≡ slots_per_frame c.args.self.now.mode c.args.self.now.guard = omega arith in
     sym (take_all c.loop-slot.at c.loop-slot.out (omega arith)) ∙ c.loop-slot.invariant.bytes
-    ∙ ap (first_slots c.args.self.now.mode c.args.self.now.guard c.args.self.now.setting c.args.tag.now (layer_packet c.args.packets.now)) end
-    ∙ first_slots-all c.args.self.now.mode c.args.self.now.guard c.args.self.now.setting c.args.tag.now (layer_packet c.args.packets.now)
+    ∙ ap (first_slots c.args.self.now.mode c.args.self.now.guard c.args.self.now.setting c.args.tag.now c.args.first.now (layer_packet c.args.packets.now)) end
+    ∙ first_slots-all c.args.self.now.mode c.args.self.now.guard c.args.self.now.setting c.args.tag.now c.args.first.now (layer_packet c.args.packets.now)

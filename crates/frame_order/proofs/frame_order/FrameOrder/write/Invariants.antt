@@ -10,5 +10,5 @@ invariant-loop-slot l = record {
   room : length l.out ≡ 204 * slots_per_frame l.self.mode l.self.guard;
   null : l.null ≡ null_packet;
   at : l.at ≡ 204 * l.slot;
-  bytes : take l.at l.out ≡ first_slots l.self.mode l.self.guard l.self.setting l.tag (layer_packet l.packets) l.slot;
+  bytes : take l.at l.out ≡ first_slots l.self.mode l.self.guard l.self.setting l.tag l.first (layer_packet l.packets) l.slot;
 }
