@@ -13,6 +13,9 @@ ghost use Rattle.isdbt_cli.specs.Parsing.{IsLater};
 
 use isdbt_base::{DepthCode, Guard, Mode, Modulation, Rate};
 
+/// The last frame of all.
+pub const LAST_FRAME: u32 = 16_777_215;
+
 /// The transmission mode of a word.
 pub fn mode_of(word: &str) -> Option<Mode>
     ensures spelled { IfSome result (λ m. word.now ≡ mode_word m) }
@@ -131,7 +134,7 @@ pub fn frame_of(text: &str) -> Option<u32>
         return None;
     }
     match text.parse::<u32>() {
-        Ok(frame) if frame <= 16_777_215 => Some(frame),
+        Ok(frame) if frame <= LAST_FRAME => Some(frame),
         _ => None,
     }
 }

@@ -11,15 +11,12 @@ ghost use Rattle.isdbt_cli.specs.Parsing.{Reads, BeginsWith, IsAny, IsStuck, Fol
 
 use crate::command::Command;
 use crate::cursor::Cursor;
-use crate::fields::{frame_of, guard_of, mode_of};
+use crate::fields::{LAST_FRAME, frame_of, guard_of, mode_of};
 use crate::setting_word::setting_of;
 use isdbt_base::{At, Guard, Layer, Mode, Plan, Setting};
 
 /// The most switches of a plan.
 const MOST_SWITCHES: u32 = 7;
-
-/// The last frame of all.
-const LAST_FRAME: u32 = 16_777_215;
 
 /// The command that the words of a whole line spell, or the place of their fault.
 pub fn any_command(list: &[String]) -> Result<Command<'_>, u64>
