@@ -25,7 +25,8 @@ name_follows p read v s none ws f heads = (let n = inputs_next true p ws v (line
 
 -- the end
 pub end_follows : (p : Schedule) (read : List Word) (name : Word) → SpellsPlan true p read → (ws : List Word) → Line read (input_words name ++ ws) → ws ≡ []
-end_follows p read name s ws f = same_tail (inputs_behind true p ((codes "IN=" ++ name) ∷ ws) (line_behind true p read ((codes "IN=" ++ name) ∷ ws) s (follows_line true (read ++ ((codes "IN=" ++ name) ∷ ws)) f)) refl).2
+end_follows p read name s ws f = same_tail (inputs_behind true p ((codes "IN=" ++ name) ∷ ws)
+    (line_behind true p read ((codes "IN=" ++ name) ∷ ws) s (follows_line true (read ++ ((codes "IN=" ++ name) ∷ ws)) f)) refl).2
 
 -- what stands behind the plan says it of the whole line
 pub behind_plan : (read : List Word) (u v : Unread) (place : ℕ) → Reads read u v → IsStuck (Line read) v place → IsStuck (Follows (codes "code")) u place

@@ -34,7 +34,12 @@ one_place words p q f g =
 pub no_place : (words : List Word) (c : Command) (p : ℕ) → Spells words c → IsFaultAt words p → ⊥
 no_place words c p s f =
     elim (cases_lt p (length words)) [
-      | inl less ↦ f.fault less (fewer words (p + 1) (length words) (omega (arith, less)) (c, [], subst (λ (ws : List Word). Spells ws c) (sym (append-nil (take (length words) words) ∙ take_all (length words) words (omega arith))) s))
+      | inl less ↦ f.fault less (fewer words (p + 1) (length words) (omega (arith, less)) (
+        c,
+        [],
+        subst (λ (ws : List Word). Spells ws c)
+            (sym (append-nil (take (length words) words) ∙ take_all (length words) words (omega arith))) s,
+      ))
       | inr past ↦ (let k = f.within in f.short (omega (arith, past, k)) c s)
     ]
 

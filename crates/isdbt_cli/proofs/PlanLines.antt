@@ -11,8 +11,10 @@ use Rattle.isdbt_base.specs.Plans.{Transmission, Switch, Schedule, IsPlan, Rises
 use Rattle.isdbt_base.specs.Epochs.{last_sent, last_start}
 use Rattle.isdbt_base.specs.Switching.{with_switch}
 use Rattle.isdbt_base.proofs.PlanEpochs.{plan-append}
-use Rattle.isdbt_cli.specs.CommandLines.{Word, mode_word, guard_word, transmission_words, frame_word, switch_words, SpellSwitches, SpellPlan, other_input_words, IsName, IsNameIfGiven, remux, code, receive, SpellCommand, IsRemux, IsCode}
-use Rattle.isdbt_cli.specs.Parsing.{Unread, Reads, IsStuck, Follows, named, StartsWith, Change, change_words, IsChange, IsLater, AddsSwitch, EndsPlan, ReadsSwitch, IsStuckInSwitch, SpellsPlan, ReadsPlan, HasNoFrame, planned}
+use Rattle.isdbt_cli.specs.CommandLines.{Word, mode_word, guard_word, transmission_words, frame_word, switch_words, SpellSwitches, SpellPlan, other_input_words, IsName, IsNameIfGiven, remux}
+use Rattle.isdbt_cli.specs.CommandLines.{code, receive, SpellCommand, IsRemux, IsCode}
+use Rattle.isdbt_cli.specs.Parsing.{Unread, Reads, IsStuck, Follows, named, StartsWith, Change, change_words, IsChange, IsLater, AddsSwitch, EndsPlan, ReadsSwitch, IsStuckInSwitch}
+use Rattle.isdbt_cli.specs.Parsing.{SpellsPlan, ReadsPlan, HasNoFrame, planned}
 use Rattle.isdbt_cli.proofs.Stuck.{stuck_piece, reads_both}
 use Rattle.isdbt_cli.proofs.SwitchStuck.{Changes}
 use Rattle.isdbt_cli.proofs.Transmissions.{Sent, some_name, same_head, same_tail, same_transmission}
@@ -121,7 +123,8 @@ line_follows false words l =
       remux l.p n.a n.b n.c,
       record {
         command = record { plan = l.spells.plan; a_name = n.a_name; b_name = n.b_name; c_name = n.c_name; b_used = n.b_used; c_used = n.c_used };
-        spelled = subst (λ (ws : List Word). SpellCommand (remux l.p n.a n.b n.c) (codes "remux" ∷ ws)) (sym (l.words_are ∙ ap (λ (ws : List Word). l.read ++ ws) n.words_are)) (spell_remux l.p n.a n.b n.c l.read l.spells.spelled);
+        spelled = subst (λ (ws : List Word). SpellCommand (remux l.p n.a n.b n.c) (codes "remux" ∷ ws)) (sym (l.words_are ∙ ap (λ (ws : List Word). l.read ++ ws) n.words_are))
+            (spell_remux l.p n.a n.b n.c l.read l.spells.spelled);
       },
     )
 line_follows true words l =
@@ -129,7 +132,8 @@ line_follows true words l =
       code l.p n.0,
       record {
         command = record { plan = l.spells.plan; keeps = l.spells.keeps refl; input_name = n.1 };
-        spelled = subst (λ (ws : List Word). SpellCommand (code l.p n.0) (codes "code" ∷ ws)) (sym (l.words_are ∙ ap (λ (ws : List Word). l.read ++ ws) n.2)) (spell_code l.p n.0 l.read l.spells.spelled);
+        spelled = subst (λ (ws : List Word). SpellCommand (code l.p n.0) (codes "code" ∷ ws)) (sym (l.words_are ∙ ap (λ (ws : List Word). l.read ++ ws) n.2))
+            (spell_code l.p n.0 l.read l.spells.spelled);
       },
     )
 
@@ -187,13 +191,15 @@ pub line_behind : (steady : Bool) (p : Schedule) (read words : List Word) → Sp
 line_behind steady p read words s l =
     let b = s.spelled.behind in
     let b' = l.spells.spelled.behind in
-    let lines : transmission_words p.first ++ (b ++ words) ≡ transmission_words l.p.first ++ (b' ++ l.rest) = ap (λ (ws : List Word). ws ++ words) (sym s.spelled.first) ∙ l.words_are ∙ ap (λ (ws : List Word). ws ++ l.rest) l.spells.spelled.first in
+    let lines : transmission_words p.first ++ (b ++ words) ≡ transmission_words l.p.first ++ (b' ++ l.rest) = ap (λ (ws : List Word). ws ++ words) (sym s.spelled.first) ∙ l.words_are ∙ ap
+    (λ (ws : List Word). ws ++ l.rest) l.spells.spelled.first in
     let same = same_transmission p.first l.p.first (b ++ words) (b' ++ l.rest) s.plan.first l.spells.plan.first lines in
     let first : l.p.first ≡ p.first = sym same.0 in
     let inputs : Inputs steady p.first.setting l.rest = subst (λ (t : Transmission). Inputs steady t.setting l.rest) first l.inputs in
     let rising : RisesFrom 0 p.first.setting l.p.switches = subst (λ (t : Transmission). RisesFrom 0 t.setting l.p.switches) first l.spells.plan.rising in
     let spells : SpellSwitches p.first l.p.switches b' = subst (λ (t : Transmission). SpellSwitches t l.p.switches b') first l.spells.spelled.switches in
-    let k = go_on p.first.setting words l.rest (inputs_begin steady p.first.setting l.rest inputs) p.first p.switches l.p.switches b b' (record { last = 0; rises = s.plan.rising; spells = s.spelled.switches }) (record { last = 0; rises = rising; spells = spells }) same.1 in
+    let k = go_on p.first.setting words l.rest (inputs_begin steady p.first.setting l.rest inputs) p.first p.switches l.p.switches b b'
+    (record { last = 0; rises = s.plan.rising; spells = s.spelled.switches }) (record { last = 0; rises = rising; spells = spells }) same.1 in
     record {
       more = k.more;
       spelled = k.spelled;
@@ -236,7 +242,8 @@ same_line steady words k l = go b.more b.switches b.spells
 
     go : (more : List Switch) → l.p.switches ≡ k.p.switches ++ more → SpellSwitches (last_sent k.p) more b.spelled → (k.p ≡ l.p) × (k.rest ≡ l.rest)
     go [] is none = (alike_plans k.p l.p (sym b.first) (sym (is ∙ append-nil k.p.switches)), b.words_are ∙ ap (λ (ws : List Word). ws ++ l.rest) none)
-    go (w ∷ more) is some = absurd (let bad : false ≡ true = sym (inputs_begin steady k.p.first.setting k.rest k.inputs) ∙ ap begins_at (b.words_are ∙ ap (λ (ws : List Word). ws ++ l.rest) some.2) in cc)
+    go (w ∷ more) is some = absurd (let bad : false ≡ true = sym (inputs_begin steady k.p.first.setting k.rest k.inputs) ∙ ap begins_at
+        (b.words_are ∙ ap (λ (ws : List Word). ws ++ l.rest) some.2) in cc)
 
 -- what may stand behind a frame
 pub change_behind : (steady : Bool) (p : Schedule) {q : Schedule} {rest : List Word} (frame : ℕ) (ws : List Word) → Behind steady p q rest (frame_word frame ∷ ws)
@@ -292,7 +299,8 @@ not_taken true steady p q u v e r = absurd (cc)
 not_taken false steady p q u v e r = r
 
 pub count_more : (steady : Bool) (p q : Schedule) (v w : Unread) (n : ℕ) → length p.switches ≡ n → AddsSwitch steady p q v w → length q.switches ≡ n + 1
-count_more steady p q v w n is a = (let k = ap (λ (x : Schedule). length x.switches) a.is in let m = length-append p.switches (record { frame = a.frame; after = a.change.after } ∷ []) in omega (arith, is, k, m))
+count_more steady p q v w n is a = (let k = ap (λ (x : Schedule). length x.switches) a.is in let m = length-append p.switches
+    (record { frame = a.frame; after = a.change.after } ∷ []) in omega (arith, is, k, m))
 
 -- behind a frame the words of a switch get stuck
 pub stuck_switch : (steady : Bool) (p : Schedule) (u v : Unread) (place : ℕ) → ReadsPlan steady p u v → length p.switches < 7 → IsStuckInSwitch steady p v place
@@ -312,13 +320,15 @@ stuck_switch steady p u v place r room s =
             spells = spells_more steady p r.read s.frame c r.spells room s.later valid;
             rest = n.0;
             inputs = n.1;
-            words_are = sym (append_assoc (r.read ++ frame_word s.frame ∷ []) (change_words c) n.0) ∙ ap (λ (ws : List Word). ws ++ n.0) (append_assoc r.read (frame_word s.frame ∷ []) (change_words c));
+            words_are = sym (append_assoc (r.read ++ frame_word s.frame ∷ []) (change_words c) n.0) ∙ ap (λ (ws : List Word). ws ++ n.0)
+                (append_assoc r.read (frame_word s.frame ∷ []) (change_words c));
           }),
         )
 
     down : (ws : List Word) → Follows (planned steady) ((r.read ++ frame_word s.frame ∷ []) ++ ws) → Changes steady p.first.setting (last_sent p).mode (last_sent p).guard ws
     down ws f = change_behind steady p s.frame ws
-        (line_behind steady p r.read (frame_word s.frame ∷ ws) r.spells (subst (λ (x : List Word). PlanLine steady x) (append_assoc r.read (frame_word s.frame ∷ []) ws) (follows_line steady ((r.read ++ frame_word s.frame ∷ []) ++ ws) f)))
+        (line_behind steady p r.read (frame_word s.frame ∷ ws) r.spells (subst (λ (x : List Word). PlanLine steady x) (append_assoc r.read (frame_word s.frame ∷ []) ws)
+        (follows_line steady ((r.read ++ frame_word s.frame ∷ []) ++ ws) f)))
 
 -- ---- the first words, and the last
 

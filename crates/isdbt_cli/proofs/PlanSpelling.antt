@@ -55,7 +55,8 @@ same_change mode guard false false t u xs ys f g e =
     let modes : t.mode ≡ u.mode = (f.kept refl).0 ∙ sym (g.kept refl).0 in
     let guards : t.guard ≡ u.guard = (f.kept refl).1 ∙ sym (g.kept refl).1 in
     same_transmission t u xs ys f.accepted g.accepted
-    (ap (λ m. mode_word m ∷ guard_word t.guard ∷ setting_word t.mode t.setting ∷ xs) modes ∙ ap (λ h. mode_word u.mode ∷ guard_word h ∷ setting_word t.mode t.setting ∷ xs) guards ∙ ap (λ ws. mode_word u.mode ∷ guard_word u.guard ∷ ws) e)
+    (ap (λ m. mode_word m ∷ guard_word t.guard ∷ setting_word t.mode t.setting ∷ xs) modes ∙ ap (λ h. mode_word u.mode ∷ guard_word h ∷ setting_word t.mode t.setting ∷ xs) guards ∙ ap
+    (λ ws. mode_word u.mode ∷ guard_word u.guard ∷ ws) e)
 
 pub same_frame : (f g : ℕ) → f ≤ 16777215 → g ≤ 16777215 → frame_word f ≡ frame_word g → f ≡ g
 same_frame f g few few' e = decimal_injective f g (omega (arith, few)) (omega (arith, few')) (append_cancel_left (codes "@") (decimal f) (decimal g) e)
@@ -100,8 +101,10 @@ module _ (first : Parameters) (tail names : List Word) (none : begins_at names �
       let l = s'.spells in
       let r = s.rises in
       let r' = s'.rises in
-      let same = same_switch t k.0 l.0 w v (k.1 ++ tail) (l.1 ++ names) (r.1, record { accepted = r.2; kept = k.3 }) (r'.1, record { accepted = r'.2; kept = l.3 }) (regroup (switch_words k.0 w) k.1 (switch_words l.0 v) l.1 tail names k.2 l.2 e) in
-      let rest = go_on w.after ws vs k.1 l.1 (record { last = w.frame; rises = r.4; spells = k.4 }) (record { last = v.frame; rises = r'.4; spells = subst (λ (x : Switch). SpellSwitches x.after vs l.1) (sym same.0) l.4 }) same.1 in
+      let same = same_switch t k.0 l.0 w v (k.1 ++ tail) (l.1 ++ names) (r.1, record { accepted = r.2; kept = k.3 }) (r'.1, record { accepted = r'.2; kept = l.3 })
+      (regroup (switch_words k.0 w) k.1 (switch_words l.0 v) l.1 tail names k.2 l.2 e) in
+      let rest = go_on w.after ws vs k.1 l.1 (record { last = w.frame; rises = r.4; spells = k.4 })
+      (record { last = v.frame; rises = r'.4; spells = subst (λ (x : Switch). SpellSwitches x.after vs l.1) (sym same.0) l.4 }) same.1 in
       record { more = rest.more; is = ap (λ (x : Switch). x ∷ vs) (sym same.0) ∙ ap (λ (y : List Switch). w ∷ y) rest.is; spelled = rest.spelled; spells = rest.spells; words = rest.words }
 
 pub spell_more : (t : Transmission) (ws vs : List Switch) (xs ys : List Word) → SpellSwitches t ws xs → SpellSwitches (last_sent_from t ws) vs ys → SpellSwitches t (ws ++ vs) (xs ++ ys)

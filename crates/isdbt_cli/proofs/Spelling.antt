@@ -15,7 +15,8 @@ use Rattle.isdbt_cli.specs.Parsing.{Unread, BeginsWith, IsStuck, Reads, Follows,
 use Rattle.isdbt_cli.proofs.Stuck.{stuck_behind, reads_none, AnyCommand, fault_at}
 use Rattle.isdbt_cli.proofs.Transmissions.{some_setting, some_accepted, same_head, same_tail}
 use Rattle.isdbt_cli.proofs.PlanSpelling.{begins_at}
-use Rattle.isdbt_cli.proofs.PlanLines.{NamesOf, names_words, spell_remux, remux_spelled, code_spelled, receive_spelled, some_named, some_inputs, line_follows, follows_line, line_behind, inputs_behind, inputs_next, sent_follows}
+use Rattle.isdbt_cli.proofs.PlanLines.{NamesOf, names_words, spell_remux, remux_spelled, code_spelled, receive_spelled, some_named, some_inputs, line_follows, follows_line, line_behind}
+use Rattle.isdbt_cli.proofs.PlanLines.{inputs_behind, inputs_next, sent_follows}
 
 -- ---- behind a plan
 
@@ -182,7 +183,8 @@ wanted_name seat used ws wanted (Some name, given, rest, e) = (name, given.0, re
 pub name_if_stuck : (seat : Word) (used : Bool) → used ≡ true → (u : Unread) (place : ℕ) → IsStuck (BeginsWith IsName (λ name. (seat ++ name) ∷ [])) u place
     → IsStuck (BeginsWith (λ o. IsNameIfGiven o × (is_some o ≡ used)) (named seat)) u place
 name_if_stuck seat used wanted u place s =
-    stuck_behind (BeginsWith IsName (λ name. (seat ++ name) ∷ [])) (BeginsWith (λ o. IsNameIfGiven o × (is_some o ≡ used)) (named seat)) [] u u place (reads_none u) (λ ws b. name_wanted seat used ws wanted b) (λ ws b. wanted_name seat used ws wanted b) s
+    stuck_behind (BeginsWith IsName (λ name. (seat ++ name) ∷ [])) (BeginsWith (λ o. IsNameIfGiven o × (is_some o ≡ used)) (named seat)) [] u u place (reads_none u)
+    (λ ws b. name_wanted seat used ws wanted b) (λ ws b. wanted_name seat used ws wanted b) s
 
 pub given : (o : Option (Bor Word)) (used flag : Bool) → used ≡ flag → IsNameIfGiven (option_map (λ x. x.now) o) × (is_some o ≡ used)
     → IsNameIfGiven (option_map (λ x. x.now) o) × (is_some (option_map (λ x. x.now) o) ≡ flag)

@@ -96,8 +96,11 @@ stuck_piece {X = X} Valid text M read u v p r up down s = record {
   where
     go : (x : X) → Valid x → (more : List Word) → s.front ++ s.goes_on.0 ≡ text x ++ more → (tail : List Word) × M ((read ++ s.front) ++ tail)
     go x valid more e = elim (overlap s.front s.goes_on.0 (text x) more e) [
-      | inl o ↦ (let m = up x valid in
-          (o.0 ++ m.0, subst M (ap (λ (xs : List Word). read ++ (xs ++ m.0)) o.1 ∙ ap (λ (xs : List Word). read ++ xs) (append_assoc s.front o.0 m.0) ∙ sym (append_assoc read s.front (o.0 ++ m.0))) m.1))
+      | inl o ↦ (let m = up x valid in (
+        o.0 ++ m.0,
+        subst M (ap (λ (xs : List Word). read ++ (xs ++ m.0)) o.1 ∙ ap (λ (xs : List Word). read ++ xs) (append_assoc s.front o.0 m.0) ∙ sym
+            (append_assoc read s.front (o.0 ++ m.0))) m.1,
+      ))
       | inr o ↦ absurd (s.stuck s.rest (x, valid, o.0 ++ s.rest, ap (λ (xs : List Word). xs ++ s.rest) o.1 ∙ append_assoc (text x) o.0 s.rest) refl)
     ]
 

@@ -117,7 +117,11 @@ taken_layers p frame s room later e = same_layers p.first.setting s (no_layer (o
 pub refused_layers : (p : Schedule) (frame : ℕ) (s : Parameters) (fault : PlanFault) → length p.switches < 7 → IsLater (last_start p) frame
     → switch_fault p frame s ≡ Some fault → SameLayers p.first.setting s → ⊥
 refused_layers p frame s fault room later e same =
-    let none : switch_fault p frame s ≡ None = fault_is p frame s room later ∙ rw (alike_yes (is_some p.first.setting.b) (is_some s.b) same.0, alike_yes (is_some p.first.setting.c) (is_some s.c) same.1) refl in
+    let none : switch_fault p frame s ≡ None = fault_is p frame s room later ∙ rw (
+      alike_yes (is_some p.first.setting.b) (is_some s.b) same.0,
+      alike_yes (is_some p.first.setting.c)
+          (is_some s.c) same.1,
+    ) refl in
     let bad : None ≡ Some fault = sym none ∙ e in cc
 
 -- ---- the place in the switch

@@ -98,5 +98,8 @@ same_transmission t u xs ys okt oku e =
     let mode : t.mode ≡ u.mode = mode_word-injective t.mode u.mode (same_head e) in
     let guard : t.guard ≡ u.guard = guard_word-injective t.guard u.guard (same_head (same_tail e)) in
     let word : setting_word t.mode t.setting ≡ setting_word u.mode u.setting = same_head (same_tail (same_tail e)) in
-    let setting : t.setting ≡ u.setting = setting_word-injective t.mode t.setting u.setting okt oku (word ∙ ap (λ n. setting_word n u.setting) (sym mode)) in
-    (ap (λ v. record { mode = v; guard = t.guard; setting = t.setting }) mode ∙ ap (λ v. record { mode = u.mode; guard = v; setting = t.setting }) guard ∙ ap (λ v. record { mode = u.mode; guard = u.guard; setting = v }) setting, same_tail (same_tail (same_tail e)))
+    let setting : t.setting ≡ u.setting = setting_word-injective t.mode t.setting u.setting okt oku (word ∙ ap (λ n. setting_word n u.setting) (sym mode)) in (
+      ap (λ v. record { mode = v; guard = t.guard; setting = t.setting }) mode ∙ ap (λ v. record { mode = u.mode; guard = v; setting = t.setting }) guard ∙ ap
+          (λ v. record { mode = u.mode; guard = u.guard; setting = v }) setting,
+      same_tail (same_tail (same_tail e)),
+    )

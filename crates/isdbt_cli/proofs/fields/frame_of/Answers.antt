@@ -17,14 +17,18 @@ returns-then-first-eq48-clause-found c = λ n later e.
 
 pub returns-in-Ok-clause-spelled : goal.returns-in-Ok-clause-spelled
 returns-in-Ok-clause-spelled c =
-    let s = frame_spelled c.args.text.now c.in_ok-first.field-0.now c.parse.result c.in-Ok.frame (c.in_ok-first.ensures.value ∙ ap (λ t. slice_get t 0) c.as_bytes.ensures.value) c.if-first-eq48.false c.if-first-eq43.false c.parse.ensures.value.0 c.in-Ok.is in
+    let s = frame_spelled c.args.text.now c.in_ok-first.field-0.now c.parse.result c.in-Ok.frame
+    (c.in_ok-first.ensures.value ∙ ap (λ t. slice_get t 0) c.as_bytes.ensures.value) c.if-first-eq48.false c.if-first-eq43.false c.parse.ensures.value.0 c.in-Ok.is in
     ((s.0, c.if-frame-le-LAST_FRAME.true), s.1)
 
 pub returns-in-Ok-clause-found : goal.returns-in-Ok-clause-found
-returns-in-Ok-clause-found c = λ n later e. (let read = frame_read c.args.text.now c.parse.result n later e c.parse.ensures.value.0 in let is = c.in-Ok.is in let same : c.in-Ok.frame ≡ n = cc in ap Some same)
+returns-in-Ok-clause-found c = λ n later e.
+    (let read = frame_read c.args.text.now c.parse.result n later e c.parse.ensures.value.0 in let is = c.in-Ok.is in let same : c.in-Ok.frame ≡ n = cc in ap Some same)
 
 pub returns-in_default-clause-found : goal.returns-in_default-clause-found
-returns-in_default-clause-found c = λ n later e. (let read = frame_read c.args.text.now c.parse.result n later e c.parse.ensures.value.0 in let is = c.in-Ok.is in let above = c.if-frame-le-LAST_FRAME.false in let few = later.1 in let same : c.in-Ok.frame ≡ n = cc in absurd (omega (arith, above, few, same)))
+returns-in_default-clause-found c = λ n later e.
+    (let read = frame_read c.args.text.now c.parse.result n later e c.parse.ensures.value.0 in let is = c.in-Ok.is in let above =
+    c.if-frame-le-LAST_FRAME.false in let few = later.1 in let same : c.in-Ok.frame ≡ n = cc in absurd (omega (arith, above, few, same)))
 
 pub returns-in_default-2-clause-found : goal.returns-in_default-2-clause-found
 returns-in_default-2-clause-found c = λ n later e. (let read = frame_read c.args.text.now c.parse.result n later e c.parse.ensures.value.0 in let is = c.in_default.is in absurd (cc))

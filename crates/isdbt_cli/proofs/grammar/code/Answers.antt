@@ -18,7 +18,9 @@ returns-in_err-name c =
     let p = err_from_is_err_and c.from_residual-in_err-name.result c.from_residual-in_err-name.ensures.1 in
     let plan = c.in_ok-plan.plan in
     let r = c.in_ok-plan.ensures.ok in
-    rw (p.1, p.2) (stuck_word IsName (λ name. codes "IN=" ++ name) (Follows (codes "code")) r.read c.args.words.now c.plan.new.words c.in_err-name.field-0.0 r.reads c.in_err-name.ensures.err (follows_some plan r.read r.spells) (name_follows plan r.read c.plan.new.words r.spells c.in_ok-plan.ensures.end))
+    rw (p.1, p.2) (stuck_word IsName (λ name. codes "IN=" ++ name)
+    (Follows (codes "code")) r.read c.args.words.now c.plan.new.words c.in_err-name.field-0.0 r.reads c.in_err-name.ensures.err (follows_some plan r.read r.spells)
+    (name_follows plan r.read c.plan.new.words r.spells c.in_ok-plan.ensures.end))
 
 pub returns-in_err-end : goal.returns-in_err-end
 returns-in_err-end c =
@@ -27,7 +29,8 @@ returns-in_err-end c =
     let r = c.in_ok-plan.ensures.ok in
     let n = c.in_ok-name.name.now in
     rw (p.1, p.2) (behind_plan r.read c.args.words.now c.plan.new.words c.in_err-end.field-0.0 r.reads
-    (stuck_end (Line r.read) (input_words n) c.plan.new.words c.name.new.words c.in_err-end.field-0.0 c.in_ok-name.ensures.ok c.in_err-end.ensures.err.0 c.in_err-end.ensures.err.1 (follows plan r.read n r.spells c.in_ok-name.ensures.name) (end_follows plan r.read n r.spells)))
+    (stuck_end (Line r.read) (input_words n) c.plan.new.words c.name.new.words c.in_err-end.field-0.0 c.in_ok-name.ensures.ok c.in_err-end.ensures.err.0 c.in_err-end.ensures.err.1
+    (follows plan r.read n r.spells c.in_ok-name.ensures.name) (end_follows plan r.read n r.spells)))
 
 pub returns : goal.returns
 returns c =
