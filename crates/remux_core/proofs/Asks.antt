@@ -45,7 +45,8 @@ MoreAt seat ended left left' = OthersKeep seat left left' × ((first : ℕ) (byt
 abbrev pub FaultAt : Seat → Bool → (Seat → Option (List ℕ)) → (Seat → Option (List ℕ)) → RemuxFault → Type 0
 FaultAt seat ended left left' fault = OthersKeep seat left left' × ((first : ℕ) (bytes : List ℕ) → StandsAt first bytes ended → left seat ≡ Some (drop (188 * first) bytes) → AskFault first bytes seat (left' seat) fault (remux_kind fault))
 
-pub asked-more : (p : Schedule) (input : Layer → List ℕ) (limit : ℕ) (i : Inputs) (l mid mid' : Seat → Option (List ℕ)) (x : Layer) → IsReady p input limit i l → Asked p input limit (place_of x) mid → MoreAt (seat_of x) (input_of i x).ended mid mid' → Asked p input limit (place_of x + 1) mid'
+pub asked-more : (p : Schedule) (input : Layer → List ℕ) (limit : ℕ) (i : Inputs) (l mid mid' : Seat → Option (List ℕ)) (x : Layer) → IsReady p input limit i l →
+    Asked p input limit (place_of x) mid → MoreAt (seat_of x) (input_of i x).ended mid mid' → Asked p input limit (place_of x + 1) mid'
 asked-more p input limit i l mid mid' x ready so_far (others, said) = record { took = took; none = none; short = short }
   where
     no_more : IsUsed p x → NoMore (placed_before p x limit) (input x) (mid' (seat_of x))
@@ -77,7 +78,8 @@ asked-more p input limit i l mid mid' x ready so_far (others, said) = record { t
 
 -- ---- no more anywhere
 
-pub no_more_frames : (p : Schedule) (input : Layer → List ℕ) (limit : ℕ) (i : Inputs) (l left : Seat → Option (List ℕ)) (before after : Option (List ℕ)) → IsPlan p → last_start p ≡ limit → Progress p input limit limit i l before after → Asked p input limit 3 left → Finished p input limit limit before after left
+pub no_more_frames : (p : Schedule) (input : Layer → List ℕ) (limit : ℕ) (i : Inputs) (l left : Seat → Option (List ℕ)) (before after : Option (List ℕ)) → IsPlan p →
+    last_start p ≡ limit → Progress p input limit limit i l before after → Asked p input limit 3 left → Finished p input limit limit before after left
 no_more_frames p input limit i l left before after plan begins so_far asked =
     finished p input limit limit before after left plan (λ x none. (so_far.ready.unused x none).1) (omega (arith, begins, count)) all (so_far.passed, so_far.written) good (λ x used. asked.none x used (place-few x))
   where
@@ -149,7 +151,8 @@ more_of-other C B ne = refl
 more_of-other C C ne = absurd (ne refl)
 
 -- the frame at the limit has room for it
-took_one : (p : Schedule) (input : Layer → List ℕ) (limit : ℕ) (mid mid' : Seat → Option (List ℕ)) (x : Layer) → IsPlan p → last_start p ≡ limit → Took p mid input (bytes_before p limit) → OthersKeep (seat_of x) mid mid' →
+took_one : (p : Schedule) (input : Layer → List ℕ) (limit : ℕ) (mid mid' : Seat → Option (List ℕ)) (x : Layer) → IsPlan p → last_start p ≡ limit →
+    Took p mid input (bytes_before p limit) → OthersKeep (seat_of x) mid mid' →
     mid' (seat_of x) ≡ Some (drop (bytes_before p limit x + 1) (input x)) → TookAtMost p mid' input (limit + 1)
 took_one p input limit mid mid' x plan begins took others one = record {
   taken = λ y. bytes_before p limit y + more_of x y;
@@ -211,7 +214,8 @@ asked_fault p input limit i l mid mid' x before after fault plan begins so_far g
 
 -- ---- when a question may fail
 
-pub ask_cause : (p : Schedule) (x : Layer) (seat : Seat) (shelf mid shelf' : Cause → ℕ) (sink : ℕ) (kind : FaultKind) → IsUsed p x → seat ≡ seat_of x → mid ≡ shelf → AskFaultCause seat mid shelf' kind → FaultCause (IsInputSeat p) shelf shelf' sink sink kind
+pub ask_cause : (p : Schedule) (x : Layer) (seat : Seat) (shelf mid shelf' : Cause → ℕ) (sink : ℕ) (kind : FaultKind) → IsUsed p x → seat ≡ seat_of x → mid ≡ shelf →
+    AskFaultCause seat mid shelf' kind → FaultCause (IsInputSeat p) shelf shelf' sink sink kind
 ask_cause p x seat shelf mid shelf' sink frame_refused used is kept said = (said ∙ kept, refl)
 ask_cause p x seat shelf mid shelf' sink (read_failed failed) used is kept said =
     ((x, used, said.0 ∙ is), rw said.0 (subst (λ (k : Cause → ℕ). Rose (k (Reading seat)) (shelf' (Reading seat))) kept said.1), refl)

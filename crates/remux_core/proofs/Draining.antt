@@ -38,8 +38,10 @@ later p input f g behind le x = (let a = behind x in let b = placed_before-rise 
 -- ---- the end
 
 -- all frames are written
-pub finished : (p : Schedule) (input : Layer → List ℕ) (limit m : ℕ) (before after : Option (List ℕ)) (left : Seat → Option (List ℕ)) → IsPlan p → NoneUnused p input → m ≡ frame_count p (packet_count input) → IsBehind p input m →
-    Passed (remux_command p input limit) m × Wrote (remux_command p input limit) m before after → ((x : Layer) → IsGood (input x)) → ((x : Layer) → IsUsed p x → left (seat_of x) ≡ Some []) → Finished p input limit m before after left
+pub finished : (p : Schedule) (input : Layer → List ℕ) (limit m : ℕ) (before after : Option (List ℕ)) (left : Seat → Option (List ℕ)) → IsPlan p → NoneUnused p input →
+    m ≡ frame_count p (packet_count input) → IsBehind p input m →
+    Passed (remux_command p input limit) m × Wrote (remux_command p input limit) m before after → ((x : Layer) → IsGood (input x)) →
+    ((x : Layer) → IsUsed p x → left (seat_of x) ≡ Some []) → Finished p input limit m before after left
 finished p input limit m before after left plan none is behind so_far good left_is = record {
   ended = ended-done (remux_command p input limit) m before after so_far.0 so_far.1 (refusal-past p input limit m (too_long-past p input limit m gone) behind) gone;
   count = is;
@@ -58,7 +60,8 @@ finished p input limit m before after left plan none is behind so_far good left_
     ]
 
 -- there was no data
-pub no_data : (p : Schedule) (input : Layer → List ℕ) (limit frames : ℕ) (before after : Option (List ℕ)) (left : Seat → Option (List ℕ)) → IsPlan p → NoneUnused p input → frames ≡ last_start p → DataDone p input limit frames before after left → Finished p input limit frames before after left
+pub no_data : (p : Schedule) (input : Layer → List ℕ) (limit frames : ℕ) (before after : Option (List ℕ)) (left : Seat → Option (List ℕ)) → IsPlan p → NoneUnused p input →
+    frames ≡ last_start p → DataDone p input limit frames before after left → Finished p input limit frames before after left
 no_data p input limit frames before after left plan none first d =
     let all = d.frames_is in
     let count = frame_count-none p (packet_count input) (omega (arith, all, first)) in
@@ -79,7 +82,8 @@ abbrev pub Drained : Schedule → ℕ → ℕ → ℕ → Option (List ℕ) → 
 Drained p limit frames f old now = (input : Layer → List ℕ) (before : Option (List ℕ)) (left : Seat → Option (List ℕ)) → NoneUnused p input → DataDone p input limit frames before old left →
     Passed (remux_command p input limit) f × Wrote (remux_command p input limit) f before now
 
-all_frames : (p : Schedule) (input : Layer → List ℕ) (limit frames end : ℕ) (before old : Option (List ℕ)) (left : Seat → Option (List ℕ)) → Drain p input limit frames end before old left → end ≡ frame_count p (packet_count input)
+all_frames : (p : Schedule) (input : Layer → List ℕ) (limit frames end : ℕ) (before old : Option (List ℕ)) (left : Seat → Option (List ℕ)) →
+    Drain p input limit frames end before old left → end ≡ frame_count p (packet_count input)
 all_frames p input limit frames end before old left d =
     let is = d.done.frames_is in
     let some = d.some in
@@ -87,26 +91,32 @@ all_frames p input limit frames end before old left d =
     let count = frame_count-some p (packet_count input) (omega (arith, is, some)) in
     omega (arith, is, all, count)
 
-pub behind_data : (p : Schedule) (input : Layer → List ℕ) (limit frames f : ℕ) (before old : Option (List ℕ)) (left : Seat → Option (List ℕ)) → DataDone p input limit frames before old left → frames ≤ f → IsBehind p input f
+pub behind_data : (p : Schedule) (input : Layer → List ℕ) (limit frames f : ℕ) (before old : Option (List ℕ)) (left : Seat → Option (List ℕ)) →
+    DataDone p input limit frames before old left → frames ≤ f → IsBehind p input f
 behind_data p input limit frames f before old left d from = later p input frames f d.behind from
 
-passed_past : (p : Schedule) (input : Layer → List ℕ) (limit frames end f : ℕ) (before old : Option (List ℕ)) (left : Seat → Option (List ℕ)) → Drain p input limit frames end before old left → frames ≤ f → f < end → f < limit → Passed (remux_command p input limit) f → Passed (remux_command p input limit) (f + 1)
+passed_past : (p : Schedule) (input : Layer → List ℕ) (limit frames end f : ℕ) (before old : Option (List ℕ)) (left : Seat → Option (List ℕ)) →
+    Drain p input limit frames end before old left → frames ≤ f → f < end → f < limit → Passed (remux_command p input limit) f → Passed (remux_command p input limit) (f + 1)
 passed_past p input limit frames end f before old left d from below less so_far =
     let all = all_frames p input limit frames end before old left d in
     passed-more (remux_command p input limit) f so_far
     (refusal-past p input limit f (too_long-none p input limit f less) (behind_data p input limit frames f before old left d.done from))
     (lt-ltb f (frame_count p (packet_count input)) (omega (arith, all, below)))
 
-pub drained_more : (p : Schedule) (input : Layer → List ℕ) (limit frames end f : ℕ) (before old mid after : Option (List ℕ)) (left : Seat → Option (List ℕ)) → Drain p input limit frames end before old left → frames ≤ f → f < end → f < limit →
-    Passed (remux_command p input limit) f × Wrote (remux_command p input limit) f before mid → after ≡ append_known mid (written_frame p input f) → Passed (remux_command p input limit) (f + 1) × Wrote (remux_command p input limit) (f + 1) before after
+pub drained_more : (p : Schedule) (input : Layer → List ℕ) (limit frames end f : ℕ) (before old mid after : Option (List ℕ)) (left : Seat → Option (List ℕ)) →
+    Drain p input limit frames end before old left → frames ≤ f → f < end → f < limit →
+    Passed (remux_command p input limit) f × Wrote (remux_command p input limit) f before mid → after ≡ append_known mid (written_frame p input f) →
+    Passed (remux_command p input limit) (f + 1) × Wrote (remux_command p input limit) (f + 1) before after
 drained_more p input limit frames end f before old mid after left d from below less so_far wrote =
     (passed_past p input limit frames end f before old left d from below less so_far.0, wrote-more (remux_command p input limit) f before mid after so_far.1 wrote)
 
 -- behind the data nothing more is taken
-took_all : (p : Schedule) (input : Layer → List ℕ) (f : ℕ) (left : Seat → Option (List ℕ)) → IsBehind p input f → ((x : Layer) → IsUsed p x → left (seat_of x) ≡ Some []) → Took p left input (bytes_before p f)
+took_all : (p : Schedule) (input : Layer → List ℕ) (f : ℕ) (left : Seat → Option (List ℕ)) → IsBehind p input f → ((x : Layer) → IsUsed p x → left (seat_of x) ≡ Some []) →
+    Took p left input (bytes_before p f)
 took_all p input f left behind all x used = (let short = behind x in all x used ∙ ap Some (sym (drop_all (bytes_before p f x) (input x) short)))
 
-pub drain_failed : (p : Schedule) (input : Layer → List ℕ) (limit frames end f n : ℕ) (before old mid after : Option (List ℕ)) (left : Seat → Option (List ℕ)) → Drain p input limit frames end before old left → frames ≤ f → f < end → f < limit →
+pub drain_failed : (p : Schedule) (input : Layer → List ℕ) (limit frames end f n : ℕ) (before old mid after : Option (List ℕ)) (left : Seat → Option (List ℕ)) →
+    Drain p input limit frames end before old left → frames ≤ f → f < end → f < limit →
     Passed (remux_command p input limit) f × Wrote (remux_command p input limit) f before mid → (n < length (written_frame p input f)) × (after ≡ append_known mid (take n (written_frame p input f))) →
     WriteFailed (remux_command p input limit) (λ g. Took p left input (bytes_before p g)) before after
 drain_failed p input limit frames end f n before old mid after left d from below less so_far part = record {
@@ -118,7 +128,8 @@ drain_failed p input limit frames end f n before old mid after left d from below
   account = took_all p input (f + 1) left (behind_data p input limit frames (f + 1) before old left d.done (omega (arith, from))) d.done.left_is;
 }
 
-pub drain_too_long : (p : Schedule) (input : Layer → List ℕ) (limit frames end : ℕ) (before old after : Option (List ℕ)) (left : Seat → Option (List ℕ)) → Drain p input limit frames end before old left → frames ≤ limit → limit < end →
+pub drain_too_long : (p : Schedule) (input : Layer → List ℕ) (limit frames end : ℕ) (before old after : Option (List ℕ)) (left : Seat → Option (List ℕ)) →
+    Drain p input limit frames end before old left → frames ≤ limit → limit < end →
     Passed (remux_command p input limit) limit × Wrote (remux_command p input limit) limit before after → Refused (remux_command p input limit) (TookAtMost p left input) TooLong before after
 drain_too_long p input limit frames end before old after left d few below so_far =
     let all = all_frames p input limit frames end before old left d in

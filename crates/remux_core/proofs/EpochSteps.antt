@@ -66,12 +66,14 @@ last-begins p plan =
 -- ---- causes
 
 -- a part that follows others, in which nothing failed
-pub cause_after : {X : Type 0} (p : Schedule) (shelf mid shelf' : Cause → ℕ) (sink half sink' : ℕ) (result : Result X RemuxFault) → mid ≡ shelf → half ≡ sink → AnswerCause remux_kind (IsInputSeat p) mid shelf' half sink' result → AnswerCause remux_kind (IsInputSeat p) shelf shelf' sink sink' result
+pub cause_after : {X : Type 0} (p : Schedule) (shelf mid shelf' : Cause → ℕ) (sink half sink' : ℕ) (result : Result X RemuxFault) → mid ≡ shelf → half ≡ sink →
+    AnswerCause remux_kind (IsInputSeat p) mid shelf' half sink' result → AnswerCause remux_kind (IsInputSeat p) shelf shelf' sink sink' result
 cause_after p shelf mid shelf' sink half sink' result kept kept' said =
     subst (λ (s : Cause → ℕ). AnswerCause remux_kind (IsInputSeat p) s shelf' sink sink' result) kept
     (subst (λ (n : ℕ). AnswerCause remux_kind (IsInputSeat p) mid shelf' n sink' result) kept' said)
 
-pub fault_after : (p : Schedule) (shelf mid shelf' : Cause → ℕ) (sink half sink' : ℕ) (kind : FaultKind) → mid ≡ shelf → half ≡ sink → FaultCause (IsInputSeat p) mid shelf' half sink' kind → FaultCause (IsInputSeat p) shelf shelf' sink sink' kind
+pub fault_after : (p : Schedule) (shelf mid shelf' : Cause → ℕ) (sink half sink' : ℕ) (kind : FaultKind) → mid ≡ shelf → half ≡ sink →
+    FaultCause (IsInputSeat p) mid shelf' half sink' kind → FaultCause (IsInputSeat p) shelf shelf' sink sink' kind
 fault_after p shelf mid shelf' sink half sink' kind kept kept' said =
     subst (λ (s : Cause → ℕ). FaultCause (IsInputSeat p) s shelf' sink sink' kind) kept
     (subst (λ (n : ℕ). FaultCause (IsInputSeat p) mid shelf' n sink' kind) kept' said)

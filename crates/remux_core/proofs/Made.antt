@@ -32,14 +32,16 @@ null_behind : (bytes : List ℕ) (j : ℕ) → length bytes ≤ 188 * j → piec
 null_behind bytes j short = rw (le-ltb j (piece_count 188 bytes) (omega (arith, short))) refl
 
 -- a frame whose packets are these is the frame of the plan
-made : (p : Schedule) (t : Transmission) (input : Layer → List ℕ) (f : ℕ) (packet : Layer → ℕ → List ℕ) → t ≡ sent_at p f → ((x : Layer) (j : ℕ) → packet x j ≡ multiplexed p input f x j) → frame_made p t f packet ≡ written_frame p input f
+made : (p : Schedule) (t : Transmission) (input : Layer → List ℕ) (f : ℕ) (packet : Layer → ℕ → List ℕ) → t ≡ sent_at p f →
+    ((x : Layer) (j : ℕ) → packet x j ≡ multiplexed p input f x j) → frame_made p t f packet ≡ written_frame p input f
 unfolding frame_made broadcast
 made p t input f packet is same =
     ordered_frame-same t.mode t.guard t.setting (frame_tag (at_frame p f) f) null_packet packet (multiplexed p input f) (λ m inside. same m.layer m.index)
     ∙ ap (λ (s : Transmission). ordered_frame s.mode s.guard s.setting (frame_tag (at_frame p f) f) null_packet (multiplexed p input f)) is
 
 -- the frame of the packets that were read
-pub made_of_read : (p : Schedule) (t : Transmission) (input : Layer → List ℕ) (f : ℕ) (i : Inputs) (packets : LayerPackets) → t ≡ sent_at p f → ((x : Layer) → layer_bytes packets x ≡ take (input_of i x).count (input_of i x).bytes.items) →
+pub made_of_read : (p : Schedule) (t : Transmission) (input : Layer → List ℕ) (f : ℕ) (i : Inputs) (packets : LayerPackets) → t ≡ sent_at p f →
+    ((x : Layer) → layer_bytes packets x ≡ take (input_of i x).count (input_of i x).bytes.items) →
     ((x : Layer) → IsRead (placed_before p x f) (filled p x f) (input x) (input_of i x)) → frame_made p t f (layer_packet packets) ≡ written_frame p input f
 made_of_read p t input f i packets is has read = made p t input f (layer_packet packets) is same
   where
@@ -52,7 +54,8 @@ made_of_read p t input f i packets is has read = made p t input f (layer_packet 
         ]
 
 -- the frame of null packets behind all inputs
-pub made_of_none : (p : Schedule) (t : Transmission) (input : Layer → List ℕ) (f : ℕ) (packets : LayerPackets) → t ≡ sent_at p f → ((x : Layer) → length (input x) ≤ 188 * placed_before p x f) → ((x : Layer) → layer_bytes packets x ≡ []) → frame_made p t f (layer_packet packets) ≡ written_frame p input f
+pub made_of_none : (p : Schedule) (t : Transmission) (input : Layer → List ℕ) (f : ℕ) (packets : LayerPackets) → t ≡ sent_at p f →
+    ((x : Layer) → length (input x) ≤ 188 * placed_before p x f) → ((x : Layer) → layer_bytes packets x ≡ []) → frame_made p t f (layer_packet packets) ≡ written_frame p input f
 made_of_none p t input f packets is past none = made p t input f (layer_packet packets) is same
   where
     same : (x : Layer) (j : ℕ) → layer_packet packets x j ≡ multiplexed p input f x j
@@ -75,5 +78,6 @@ frame_fits p t f size is room =
 pub wrote_all : (made frame : List ℕ) (mid after : Option (List ℕ)) → made ≡ frame → after ≡ append_known mid made → after ≡ append_known mid frame
 wrote_all made frame mid after same wrote = wrote ∙ ap (append_known mid) same
 
-pub wrote_some : (made frame : List ℕ) (n : ℕ) (mid after : Option (List ℕ)) → made ≡ frame → n < length made → after ≡ append_known mid (take n made) → (n < length frame) × (after ≡ append_known mid (take n frame))
+pub wrote_some : (made frame : List ℕ) (n : ℕ) (mid after : Option (List ℕ)) → made ≡ frame → n < length made → after ≡ append_known mid (take n made) →
+    (n < length frame) × (after ≡ append_known mid (take n frame))
 wrote_some made frame n mid after same short wrote = (subst (λ (xs : List ℕ). n < length xs) same short, wrote ∙ ap (λ xs. append_known mid (take n xs)) same)

@@ -73,7 +73,8 @@ places-before p input x f i h = first_fails _ _ _ (lt-leb (placed_before p x f) 
 pub places-none : (p : Schedule) (input : Layer → List ℕ) (x : Layer) (f i : ℕ) → packet_count input x ≤ i → places p input x f i ≡ false
 places-none p input x f i h = last_fails (nat_le (placed_before p x f) i) (nat_lt i (placed_before p x f + filled p x f)) _ (le-ltb i (packet_count input x) h)
 
-pub places-one : (p : Schedule) (input : Layer → List ℕ) (x : Layer) (f i : ℕ) → placed_before p x f ≤ i → i < placed_before p x f + filled p x f → i < packet_count input x → places p input x f i ≡ true
+pub places-one : (p : Schedule) (input : Layer → List ℕ) (x : Layer) (f i : ℕ) → placed_before p x f ≤ i → i < placed_before p x f + filled p x f → i < packet_count input x →
+    places p input x f i ≡ true
 places-one p input x f i from below there = all_pass _ _ _ (le-leb (placed_before p x f) i from) (lt-ltb i (placed_before p x f + filled p x f) below) (lt-ltb i (packet_count input x) there)
 
 -- ---- an unfinished packet
@@ -107,7 +108,8 @@ truncated-ended p input f x ended =
     ]
 
 -- the input ends inside a packet of the frame
-pub truncated-cut : (p : Schedule) (input : Layer → List ℕ) (f : ℕ) (x : Layer) → length (input x) % 188 ≢ 0 → 188 * placed_before p x f ≤ length (input x) → length (input x) < 188 * (placed_before p x f + filled p x f) →
+pub truncated-cut : (p : Schedule) (input : Layer → List ℕ) (f : ℕ) (x : Layer) → length (input x) % 188 ≢ 0 → 188 * placed_before p x f ≤ length (input x) →
+    length (input x) < 188 * (placed_before p x f + filled p x f) →
     truncated_in p input f x ≡ Some (Truncated (seat_of x) (length (input x) % 188))
 truncated-cut p input f x over from below =
     a_fault _ _ _ (ne_eqb (length (input x) % 188) 0 over)
@@ -133,12 +135,14 @@ fine p input f x i sync =
       | inr past ↦ and_fails _ _ (places-none p input x f i past)
     ]
 
-pub bad_sync-none : (p : Schedule) (input : Layer → List ℕ) (f : ℕ) (x : Layer) → ((i : ℕ) → placed_before p x f ≤ i → i < placed_before p x f + filled p x f → i < packet_count input x → HasSync (input x) i) → bad_sync_in p input f x ≡ None
+pub bad_sync-none : (p : Schedule) (input : Layer → List ℕ) (f : ℕ) (x : Layer) →
+    ((i : ℕ) → placed_before p x f ≤ i → i < placed_before p x f + filled p x f → i < packet_count input x → HasSync (input x) i) → bad_sync_in p input f x ≡ None
 bad_sync-none p input f x sync =
     ap (option_map (λ i. BadSync (seat_of x) i)) (find-none (places_bad_sync p input x f) (placed_before p x f) (filled p x f)
     (λ k less. fine p input f x (placed_before p x f + k) (λ there. sync (placed_before p x f + k) (omega arith) (omega arith) there)))
 
-pub bad_sync-first : (p : Schedule) (input : Layer → List ℕ) (f : ℕ) (x : Layer) (k : ℕ) → k < filled p x f → placed_before p x f + k < packet_count input x → (get_or (input x) (188 * (placed_before p x f + k)) 0 ≢ sync_byte) →
+pub bad_sync-first : (p : Schedule) (input : Layer → List ℕ) (f : ℕ) (x : Layer) (k : ℕ) → k < filled p x f → placed_before p x f + k < packet_count input x →
+    (get_or (input x) (188 * (placed_before p x f + k)) 0 ≢ sync_byte) →
     ((i : ℕ) → placed_before p x f ≤ i → i < placed_before p x f + k → HasSync (input x) i) → bad_sync_in p input f x ≡ Some (BadSync (seat_of x) (placed_before p x f + k))
 bad_sync-first p input f x k less there bad before =
     ap (option_map (λ i. BadSync (seat_of x) i)) (find-first (places_bad_sync p input x f) (placed_before p x f) (filled p x f) k less

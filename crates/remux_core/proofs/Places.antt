@@ -19,8 +19,7 @@ use Rattle.isdbt_base.specs.Plans.{Transmission, Schedule, IsPlan, SameLayers, a
 use Rattle.isdbt_base.specs.Epochs.{last_start, last_sent, leaves_after}
 use Rattle.isdbt_base.proofs.PlanEpochs.{setting_accepted}
 use Rattle.isdbt_base.proofs.EpochLaws.{last_epoch, layers_alike, greatest-covers}
-use Rattle.remux_core.specs.Multiplex.{filled, placed_before, data_frames_of, data_frames, frame_count}
-use Rattle.remux_core.specs.Wanted.{filled_at}
+use Rattle.remux_core.specs.Multiplex.{filled, filled_at, placed_before, data_frames_of, data_frames, frame_count}
 use Rattle.remux_core.specs.Frames.{packets_of, sent_at, most_packets}
 
 sum_range-suc : (g : ℕ → ℕ) (a n : ℕ) → sum_by g (range_with_len a (suc n)) ≡ sum_by g (range_with_len a n) + g (a + n)
@@ -194,7 +193,8 @@ ceil-most n t f some most =
 
 -- ---- how many frames there are
 
-frames-used : (p : Schedule) (count : Layer → ℕ) (x : Layer) (l : LayerParameters) → layer_of (last_sent p).setting x ≡ Some l → data_frames_of p count x ≡ div_ceil (count x - placed_before p x (last_start p)) (packets_of (last_sent p) x)
+frames-used : (p : Schedule) (count : Layer → ℕ) (x : Layer) (l : LayerParameters) → layer_of (last_sent p).setting x ≡ Some l →
+    data_frames_of p count x ≡ div_ceil (count x - placed_before p x (last_start p)) (packets_of (last_sent p) x)
 frames-used p count x l e = rw e refl
 
 frames-unused : (p : Schedule) (count : Layer → ℕ) (x : Layer) → layer_of (last_sent p).setting x ≡ None → data_frames_of p count x ≡ 0
@@ -254,7 +254,8 @@ counted start d g some = rw (ne_eqb d 0 (λ e. omega (arith, e, some))) refl
 counted-none : (start d g : ℕ) → d ≡ 0 → start + (if d == 0 then 0 else d + g) ≡ start
 counted-none start d g none = rw (eq-eqb d 0 none) (omega arith)
 
-pub frame_count-some : (p : Schedule) (count : Layer → ℕ) → 0 < data_frames p count → frame_count p count ≡ last_start p + (data_frames p count + greatest_delay (last_sent p).mode (last_sent p).setting)
+pub frame_count-some : (p : Schedule) (count : Layer → ℕ) → 0 < data_frames p count →
+    frame_count p count ≡ last_start p + (data_frames p count + greatest_delay (last_sent p).mode (last_sent p).setting)
 unfolding frame_count
 frame_count-some p count some = counted (last_start p) (data_frames p count) (greatest_delay (last_sent p).mode (last_sent p).setting) some
 

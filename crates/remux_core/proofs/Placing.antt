@@ -61,7 +61,8 @@ filled_leaves f d e n some =
       | inr short ↦ absurd (let k = rw short at some in omega (arith, k))
     ]
 
-layer_leaves : (f e : ℕ) (mode : Mode) (o : Option LayerParameters) → 0 < number_of (λ l. if leaves_after f (Some e) (layer_delay mode l) then packets_per_frame mode l else 0) o → f + number_of (layer_delay mode) o < e
+layer_leaves : (f e : ℕ) (mode : Mode) (o : Option LayerParameters) →
+    0 < number_of (λ l. if leaves_after f (Some e) (layer_delay mode l) then packets_per_frame mode l else 0) o → f + number_of (layer_delay mode) o < e
 layer_leaves f e mode None some = absurd (omega (arith, some))
 layer_leaves f e mode (Some l) some = filled_leaves f (layer_delay mode l) e (packets_per_frame mode l) some
 
@@ -76,7 +77,8 @@ start_same p f g e plan end from below =
     let first = epoch_start-le p f in
     ap (λ at. at.start) (epoch_frame p f g plan (omega (arith, first, from)) (subst (IsBefore g) (sym end) below))
 
-pub has_place : (p : Schedule) (input : Layer → List ℕ) (x : Layer) (i m : ℕ) → IsPlan p → 0 < packets_of p.first x → m ≡ frame_count p (packet_count input) → i < packet_count input x → HasPlace p x i m
+pub has_place : (p : Schedule) (input : Layer → List ℕ) (x : Layer) (i m : ℕ) → IsPlan p → 0 < packets_of p.first x → m ≡ frame_count p (packet_count input) →
+    i < packet_count input x → HasPlace p x i m
 has_place p input x i m plan some all within =
     elim (option_cases (at_frame p f).end) [
       | inl none ↦ (let past = in_last p f plan none in record {

@@ -27,7 +27,8 @@ use Rattle.remux_core.proofs.Refusing.{read_length, synced, refusal-too_long}
 
 -- the inputs before the first frame
 pub begin : (p : Schedule) (input : Layer → List ℕ) (limit : ℕ) (i : Inputs) (left : Seat → Option (List ℕ)) (before : Option (List ℕ)) →
-    ((x : Layer) → 0 < packets_of p.first x → (input_of i x).ended ≡ false) → ((x : Layer) → packets_of p.first x ≡ 0 → (input_of i x).ended ≡ true) → Tells p left input → Progress p input limit 0 i left before before
+    ((x : Layer) → 0 < packets_of p.first x → (input_of i x).ended ≡ false) → ((x : Layer) → packets_of p.first x ≡ 0 → (input_of i x).ended ≡ true) → Tells p left input →
+    Progress p input limit 0 i left before before
 begin p input limit i left before used unused tells = record {
   ready = record { stands = stands; left_is = left_is; unused = λ x none. (unused x none, tells.unused x none) };
   sync = λ x k less there. absurd (let e = placed_before-zero p x in omega (arith, e, less));
@@ -59,7 +60,8 @@ pub record Turn (p : Schedule) (input : Layer → List ℕ) (limit f : ℕ) (i j
   pub read : FrameRead p input limit f j left'
 
 -- the packets up to the frame's end begin with the sync byte
-synced_all : (p : Schedule) (input : Layer → List ℕ) (limit f : ℕ) (i j : Inputs) (left left' : Seat → Option (List ℕ)) (before after : Option (List ℕ)) → Turn p input limit f i j left left' before after →
+synced_all : (p : Schedule) (input : Layer → List ℕ) (limit f : ℕ) (i j : Inputs) (left left' : Seat → Option (List ℕ)) (before after : Option (List ℕ)) →
+    Turn p input limit f i j left left' before after →
     (x : Layer) (k : ℕ) → k < placed_before p x (f + 1) → 188 * k < length (input x) → HasSync (input x) k
 synced_all p input limit f i j left left' before after t x k less there =
     elim (cases_lt k (placed_before p x f)) [
@@ -68,7 +70,8 @@ synced_all p input limit f i j left left' before after t x k less there =
     ]
 
 -- an input that has ended has whole packets
-whole_all : (p : Schedule) (input : Layer → List ℕ) (limit f : ℕ) (i j : Inputs) (left left' : Seat → Option (List ℕ)) (before after : Option (List ℕ)) → Turn p input limit f i j left left' before after →
+whole_all : (p : Schedule) (input : Layer → List ℕ) (limit f : ℕ) (i j : Inputs) (left left' : Seat → Option (List ℕ)) (before after : Option (List ℕ)) →
+    Turn p input limit f i j left left' before after →
     (x : Layer) → (input_of j x).ended ≡ true → IsWhole (input x)
 whole_all p input limit f i j left left' before after t x ended =
     elim (cases_Bool (input_of i x).ended) [
@@ -83,11 +86,13 @@ whole_all p input limit f i j left left' before after t x ended =
           omega (arith, len, count, past, full, whole))
     ]
 
-passed_turn : (p : Schedule) (input : Layer → List ℕ) (limit f : ℕ) (i j : Inputs) (left left' : Seat → Option (List ℕ)) (before after : Option (List ℕ)) → Turn p input limit f i j left left' before after → f < frame_count p (packet_count input) → Passed (remux_command p input limit) (f + 1)
+passed_turn : (p : Schedule) (input : Layer → List ℕ) (limit f : ℕ) (i j : Inputs) (left left' : Seat → Option (List ℕ)) (before after : Option (List ℕ)) →
+    Turn p input limit f i j left left' before after → f < frame_count p (packet_count input) → Passed (remux_command p input limit) (f + 1)
 passed_turn p input limit f i j left left' before after t there =
     passed-more (remux_command p input limit) f t.so_far.passed t.read.fine (lt-ltb f (frame_count p (packet_count input)) there)
 
-pub next : (p : Schedule) (input : Layer → List ℕ) (limit f : ℕ) (i j : Inputs) (left left' : Seat → Option (List ℕ)) (before mid after : Option (List ℕ)) → Turn p input limit f i j left left' before mid → f < frame_count p (packet_count input) →
+pub next : (p : Schedule) (input : Layer → List ℕ) (limit f : ℕ) (i j : Inputs) (left left' : Seat → Option (List ℕ)) (before mid after : Option (List ℕ)) →
+    Turn p input limit f i j left left' before mid → f < frame_count p (packet_count input) →
     after ≡ append_known mid (written_frame p input f) → Progress p input limit (f + 1) j left' before after
 next p input limit f i j left left' before mid after t there wrote = record {
   ready = t.read.read.ready;
@@ -115,8 +120,10 @@ fault_answer p input limit f i left left' before after fault (read_failed seat) 
 fault_answer p input limit f i left left' before after fault write_failed so_far less said = absurd said
 fault_answer p input limit f i left left' before after fault no_memory so_far less said = absurd said
 
-pub write_fault : (p : Schedule) (input : Layer → List ℕ) (limit f n : ℕ) (i j : Inputs) (left left' : Seat → Option (List ℕ)) (before mid after : Option (List ℕ)) → Turn p input limit f i j left left' before mid → f < frame_count p (packet_count input) →
-    (n < length (written_frame p input f)) × (after ≡ append_known mid (take n (written_frame p input f))) → WriteFailed (remux_command p input limit) (λ g. Took p left' input (bytes_before p g)) before after
+pub write_fault : (p : Schedule) (input : Layer → List ℕ) (limit f n : ℕ) (i j : Inputs) (left left' : Seat → Option (List ℕ)) (before mid after : Option (List ℕ)) →
+    Turn p input limit f i j left left' before mid → f < frame_count p (packet_count input) →
+    (n < length (written_frame p input f)) × (after ≡ append_known mid (take n (written_frame p input f))) →
+    WriteFailed (remux_command p input limit) (λ g. Took p left' input (bytes_before p g)) before after
 write_fault p input limit f n i j left left' before mid after t there part = record {
   frame = f;
   sent = n;
@@ -127,7 +134,8 @@ write_fault p input limit f n i j left left' before mid after t there part = rec
 }
 
 -- the frame at the limit is there
-pub too_long : (p : Schedule) (input : Layer → List ℕ) (limit : ℕ) (i : Inputs) (left : Seat → Option (List ℕ)) (before after : Option (List ℕ)) → Progress p input limit limit i left before after → limit < frame_count p (packet_count input)
+pub too_long : (p : Schedule) (input : Layer → List ℕ) (limit : ℕ) (i : Inputs) (left : Seat → Option (List ℕ)) (before after : Option (List ℕ)) →
+    Progress p input limit limit i left before after → limit < frame_count p (packet_count input)
     → Refused (remux_command p input limit) (TookAtMost p left input) TooLong before after
 too_long p input limit i left before after so_far there = record {
   frame = limit;
@@ -136,7 +144,8 @@ too_long p input limit i left before after so_far there = record {
 }
 
 -- there is no memory where an epoch opens
-pub no_memory_at : (p : Schedule) (input : Layer → List ℕ) (limit f : ℕ) (i : Inputs) (left : Seat → Option (List ℕ)) (before after : Option (List ℕ)) → Progress p input limit f i left before after → (f ≡ 0) ⊎ (begins_later p f ≡ true)
+pub no_memory_at : (p : Schedule) (input : Layer → List ℕ) (limit f : ℕ) (i : Inputs) (left : Seat → Option (List ℕ)) (before after : Option (List ℕ)) →
+    Progress p input limit f i left before after → (f ≡ 0) ⊎ (begins_later p f ≡ true)
     → FaultAnswer (remux_command p input limit) (remux_account p input limit left) before after NoMemory no_memory
 no_memory_at p input limit f i left before after so_far (inl first) = inl (sym (wrote-none (remux_command p input limit) before ∙ sym written), tells)
   where
@@ -167,7 +176,8 @@ abbrev pub HadMore : Schedule → (Layer → List ℕ) → ℕ → Type 0
 HadMore p input f = (k : ℕ) → f ≡ last_start p + suc k → HasMore p input (last_start p + k)
 
 -- some packet came
-pub some_more : (p : Schedule) (input : Layer → List ℕ) (limit f : ℕ) (i j : Inputs) (left left' : Seat → Option (List ℕ)) (before after : Option (List ℕ)) → Turn p input limit f i j left left' before after → (x : Layer) × (0 < (input_of j x).count) → HasMore p input f
+pub some_more : (p : Schedule) (input : Layer → List ℕ) (limit f : ℕ) (i j : Inputs) (left left' : Seat → Option (List ℕ)) (before after : Option (List ℕ)) →
+    Turn p input limit f i j left left' before after → (x : Layer) × (0 < (input_of j x).count) → HasMore p input f
 some_more p input limit f i j left left' before after t (x, some) =
     let count = (t.read.read.each x).count in
     let long : 188 * placed_before p x f < length (input x) = omega (arith, count, some) in
@@ -189,7 +199,8 @@ there-next p input f plan past more =
     omega (arith, less, all, past)
 
 -- the count of data frames, where no packet is left
-data_frames-all : (p : Schedule) (input : Layer → List ℕ) (k : ℕ) → IsPlan p → ((x : Layer) → length (input x) ≤ 188 * placed_before p x (last_start p + k)) → HadMore p input (last_start p + k) → k ≡ data_frames p (packet_count input)
+data_frames-all : (p : Schedule) (input : Layer → List ℕ) (k : ℕ) → IsPlan p → ((x : Layer) → length (input x) ≤ 188 * placed_before p x (last_start p + k)) →
+    HadMore p input (last_start p + k) → k ≡ data_frames p (packet_count input)
 data_frames-all p input zero plan all last =
     let most = data_frames-most p (packet_count input) 0 plan (λ x. (let n = all x in omega (arith, n))) in
     omega (arith, most)
@@ -199,7 +210,8 @@ data_frames-all p input (suc k) plan all last =
     omega (arith, most, less)
 
 -- no packet is left behind the frames so far
-pub data_done : (p : Schedule) (input : Layer → List ℕ) (limit f : ℕ) (i : Inputs) (left left' : Seat → Option (List ℕ)) (before after : Option (List ℕ)) → IsPlan p → last_start p ≤ f → Progress p input limit f i left before after → HadMore p input f →
+pub data_done : (p : Schedule) (input : Layer → List ℕ) (limit f : ℕ) (i : Inputs) (left left' : Seat → Option (List ℕ)) (before after : Option (List ℕ)) → IsPlan p →
+    last_start p ≤ f → Progress p input limit f i left before after → HadMore p input f →
     ((x : Layer) → length (input x) ≤ 188 * placed_before p x f) → ((x : Layer) → IsUsed p x → left' (seat_of x) ≡ Some []) → DataDone p input limit f before after left'
 data_done p input limit f i left left' before after plan past so_far last all none = record {
   good = λ x. record { whole = whole x; sync = λ k there. (let short = all x in so_far.sync x k (omega (arith, there, short)) there) };
@@ -220,7 +232,8 @@ data_done p input limit f i left left' before after plan past so_far last all no
     ]
 
 -- all inputs have ended within the frames so far
-pub all_ended : (p : Schedule) (input : Layer → List ℕ) (limit f : ℕ) (i : Inputs) (left : Seat → Option (List ℕ)) (before after : Option (List ℕ)) → IsPlan p → last_start p ≤ f → Progress p input limit f i left before after → HadMore p input f →
+pub all_ended : (p : Schedule) (input : Layer → List ℕ) (limit f : ℕ) (i : Inputs) (left : Seat → Option (List ℕ)) (before after : Option (List ℕ)) → IsPlan p →
+    last_start p ≤ f → Progress p input limit f i left before after → HadMore p input f →
     ((x : Layer) → (input_of i x).ended ≡ true) → DataDone p input limit f before after left
 all_ended p input limit f i left before after plan past so_far last ended =
     data_done p input limit f i left left before after plan past so_far last all
@@ -230,7 +243,8 @@ all_ended p input limit f i left before after plan past so_far last ended =
     all x = (so_far.ready.stands x).done (ended x)
 
 -- no packet came
-pub nothing_more : (p : Schedule) (input : Layer → List ℕ) (limit f : ℕ) (i j : Inputs) (left left' : Seat → Option (List ℕ)) (before after : Option (List ℕ)) → IsPlan p → last_start p ≤ f → Turn p input limit f i j left left' before after → HadMore p input f →
+pub nothing_more : (p : Schedule) (input : Layer → List ℕ) (limit f : ℕ) (i j : Inputs) (left left' : Seat → Option (List ℕ)) (before after : Option (List ℕ)) → IsPlan p →
+    last_start p ≤ f → Turn p input limit f i j left left' before after → HadMore p input f →
     ((x : Layer) → (input_of j x).count ≡ 0) → DataDone p input limit f before after left'
 nothing_more p input limit f i j left left' before after plan past t last none =
     data_done p input limit f i left left' before after plan past t.so_far last all

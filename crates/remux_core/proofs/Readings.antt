@@ -32,7 +32,8 @@ pub record Step (t : ℕ) (old new : LayerInput) (left left' : Option (List ℕ)
 take_none : (n : ℕ) → take {A = ℕ} n [] ≡ []
 take_none n = search rules
 
-ended_read : (first t : ℕ) (bytes : List ℕ) (old new : LayerInput) (left left' : Option (List ℕ)) → Step t old new left left' → StandsAt first bytes old.ended → old.ended ≡ true → IsRead first t bytes new
+ended_read : (first t : ℕ) (bytes : List ℕ) (old new : LayerInput) (left left' : Option (List ℕ)) → Step t old new left left' → StandsAt first bytes old.ended →
+    old.ended ≡ true → IsRead first t bytes new
 ended_read first t bytes old new left left' s at is =
     let nothing = s.nothing is in
     let past = at.done is in
@@ -43,7 +44,8 @@ ended_read first t bytes old new left left' s at is =
       next = record { goes_on = λ e. absurd (let k = nothing.1 in cc); done = λ e. omega (arith, past) };
     }
 
-going_read : (first t : ℕ) (bytes : List ℕ) (old new : LayerInput) (left left' : Option (List ℕ)) → Step t old new left left' → StandsAt first bytes old.ended → left ≡ Some (drop (188 * first) bytes) → old.ended ≡ false → IsRead first t bytes new
+going_read : (first t : ℕ) (bytes : List ℕ) (old new : LayerInput) (left left' : Option (List ℕ)) → Step t old new left left' → StandsAt first bytes old.ended →
+    left ≡ Some (drop (188 * first) bytes) → old.ended ≡ false → IsRead first t bytes new
 going_read first t bytes old new left left' s at is goes =
     let full = at.goes_on goes in
     let P : Option (List ℕ) → Type 0 = λ o. IfSome o (λ xs. take new.count new.bytes.items ≡ take new.count xs) in
@@ -61,7 +63,8 @@ going_read first t bytes old new left left' s at is goes =
     }
 
 -- the next packets are read
-pub is_read : (first t : ℕ) (bytes : List ℕ) (old new : LayerInput) (left left' : Option (List ℕ)) → Step t old new left left' → StandsAt first bytes old.ended → (old.ended ≡ false → left ≡ Some (drop (188 * first) bytes)) → IsRead first t bytes new
+pub is_read : (first t : ℕ) (bytes : List ℕ) (old new : LayerInput) (left left' : Option (List ℕ)) → Step t old new left left' → StandsAt first bytes old.ended →
+    (old.ended ≡ false → left ≡ Some (drop (188 * first) bytes)) → IsRead first t bytes new
 is_read first t bytes old new left left' s at is =
     elim (cases_Bool old.ended) [
       | inl ended ↦ ended_read first t bytes old new left left' s at ended
@@ -69,7 +72,8 @@ is_read first t bytes old new left left' s at is =
     ]
 
 -- and taken from the seat
-pub is_taken : (first t : ℕ) (bytes : List ℕ) (old new : LayerInput) (left left' : Option (List ℕ)) → Step t old new left left' → IsRead first t bytes new → left ≡ Some (drop (188 * first) bytes) → left' ≡ Some (drop (188 * (first + t)) bytes)
+pub is_taken : (first t : ℕ) (bytes : List ℕ) (old new : LayerInput) (left left' : Option (List ℕ)) → Step t old new left left' → IsRead first t bytes new →
+    left ≡ Some (drop (188 * first) bytes) → left' ≡ Some (drop (188 * (first + t)) bytes)
 is_taken first t bytes old new left left' s r is =
     s.taken ∙ ap (drop_known new.count) is ∙ ap Some (drop-drop new.count (188 * first) bytes)
     ∙ elim (cases_lt new.count (188 * t)) [
@@ -95,7 +99,8 @@ record LayerRead (p : Schedule) (input : Layer → List ℕ) (f : ℕ) (x : Laye
   read : IsRead (placed_before p x f) (filled p x f) (input x) new
   taken : IsUsed p x → left' (seat_of x) ≡ Some (drop (bytes_before p (f + 1) x) (input x))
 
-layer_read : (p : Schedule) (input : Layer → List ℕ) (f : ℕ) (i : Inputs) (x : Layer) (new : LayerInput) (left mid mid' left' : Seat → Option (List ℕ)) → IsReady p input f i left → mid (seat_of x) ≡ left (seat_of x) → StepAt (seat_of x) (filled p x f) (input_of i x) new mid mid' → left' (seat_of x) ≡ mid' (seat_of x) →
+layer_read : (p : Schedule) (input : Layer → List ℕ) (f : ℕ) (i : Inputs) (x : Layer) (new : LayerInput) (left mid mid' left' : Seat → Option (List ℕ)) →
+    IsReady p input f i left → mid (seat_of x) ≡ left (seat_of x) → StepAt (seat_of x) (filled p x f) (input_of i x) new mid mid' → left' (seat_of x) ≡ mid' (seat_of x) →
     LayerRead p input f x new left'
 layer_read p input f i x new left mid mid' left' ready same step kept =
     let has : IsUsed p x → mid (seat_of x) ≡ Some (drop (bytes_before p f x) (input x)) = (λ used. same ∙ ready.left_is x used) in
@@ -105,7 +110,9 @@ layer_read p input f i x new left mid mid' left' ready same step kept =
       taken = λ used. kept ∙ is_taken (placed_before p x f) (filled p x f) (input x) (input_of i x) new (mid (seat_of x)) (mid' (seat_of x)) step.0 read (has used) ∙ ap (λ n. Some (drop (188 * n) (input x))) (sym (placed_before-next p x f));
     }
 
-pub all_read : (p : Schedule) (input : Layer → List ℕ) (f : ℕ) (i : Inputs) (a b c : LayerInput) (l0 l1 l2 l3 : Seat → Option (List ℕ)) → StepAt seats.A (filled p A f) i.a a l0 l1 → StepAt seats.B (filled p B f) i.b b l1 l2 → StepAt seats.C (filled p C f) i.c c l2 l3 → IsReady p input f i l0 → AreRead p input f (record { a = a; b = b; c = c }) l3
+pub all_read : (p : Schedule) (input : Layer → List ℕ) (f : ℕ) (i : Inputs) (a b c : LayerInput) (l0 l1 l2 l3 : Seat → Option (List ℕ)) →
+    StepAt seats.A (filled p A f) i.a a l0 l1 → StepAt seats.B (filled p B f) i.b b l1 l2 → StepAt seats.C (filled p C f) i.c c l2 l3 → IsReady p input f i l0 →
+    AreRead p input f (record { a = a; b = b; c = c }) l3
 all_read p input f i a b c l0 l1 l2 l3 sa sb sc ready = record {
   each = each;
   ready = record {
@@ -145,12 +152,16 @@ pub record StopAt (seat : Seat) (t : ℕ) (old : LayerInput) (left left' : Seat 
   pub within : IfSome (left seat) (λ bytes. count ≤ length bytes)
   pub others : OthersKeep seat left left'
 
-pub stop_at : (seat : Seat) (t : ℕ) (old : LayerInput) (left left' : Seat → Option (List ℕ)) → old.seat ≡ seat → old.ended ≡ false → ((n : ℕ) × (n < 188 * t) × (left' old.seat ≡ drop_known n (left old.seat)) × IfSome (left old.seat) (λ bytes. n ≤ length bytes)) → OthersKeep old.seat left left' → StopAt seat t old left left'
+pub stop_at : (seat : Seat) (t : ℕ) (old : LayerInput) (left left' : Seat → Option (List ℕ)) → old.seat ≡ seat → old.ended ≡ false →
+    ((n : ℕ) × (n < 188 * t) × (left' old.seat ≡ drop_known n (left old.seat)) × IfSome (left old.seat) (λ bytes. n ≤ length bytes)) → OthersKeep old.seat left left' →
+    StopAt seat t old left left'
 stop_at seat t old left left' e goes some others =
     subst (λ (s : Seat). StopAt s t old left left') e (record { goes = goes; count = some.0; few = some.1; taken = some.2; within = some.3; others = others })
 
-stopped : (p : Schedule) (input : Layer → List ℕ) (f : ℕ) (i : Inputs) (x : Layer) (left mid mid' : Seat → Option (List ℕ)) → IsReady p input f i left → mid (seat_of x) ≡ left (seat_of x) → StopAt (seat_of x) (filled p x f) (input_of i x) mid mid' →
-    ((y : Layer) → IsUsed p y → place_of y < place_of x → mid' (seat_of y) ≡ Some (drop (bytes_before p (f + 1) y) (input y))) → ((y : Layer) → IsUsed p y → place_of x < place_of y → mid' (seat_of y) ≡ Some (drop (bytes_before p f y) (input y))) → ReadStopped p input f mid' (seat_of x)
+stopped : (p : Schedule) (input : Layer → List ℕ) (f : ℕ) (i : Inputs) (x : Layer) (left mid mid' : Seat → Option (List ℕ)) → IsReady p input f i left →
+    mid (seat_of x) ≡ left (seat_of x) → StopAt (seat_of x) (filled p x f) (input_of i x) mid mid' →
+    ((y : Layer) → IsUsed p y → place_of y < place_of x → mid' (seat_of y) ≡ Some (drop (bytes_before p (f + 1) y) (input y))) →
+    ((y : Layer) → IsUsed p y → place_of x < place_of y → mid' (seat_of y) ≡ Some (drop (bytes_before p f y) (input y))) → ReadStopped p input f mid' (seat_of x)
 stopped p input f i x left mid mid' ready same stop earlier later =
     let used : IsUsed p x = goes-used p input f i left x ready stop.goes in
     let b = placed_before-next p x f in
@@ -172,7 +183,8 @@ stopped p input f i x left mid mid' ready same stop earlier later =
       later = later;
     }
 
-pub stopped_a : (p : Schedule) (input : Layer → List ℕ) (f : ℕ) (i : Inputs) (l0 l1 : Seat → Option (List ℕ)) → StopAt seats.A (filled p A f) i.a l0 l1 → IsReady p input f i l0 → ReadStopped p input f l1 seats.A
+pub stopped_a : (p : Schedule) (input : Layer → List ℕ) (f : ℕ) (i : Inputs) (l0 l1 : Seat → Option (List ℕ)) → StopAt seats.A (filled p A f) i.a l0 l1 →
+    IsReady p input f i l0 → ReadStopped p input f l1 seats.A
 stopped_a p input f i l0 l1 stop ready = stopped p input f i A l0 l0 l1 ready refl stop (λ y used less. absurd (none y less)) later
   where
     none : (y : Layer) → place_of y < 0 → ⊥
@@ -183,7 +195,8 @@ stopped_a p input f i l0 l1 stop ready = stopped p input f i A l0 l0 l1 ready re
     later B used less = stop.others seats.B (λ e. cc) ∙ ready.left_is B used
     later C used less = stop.others seats.C (λ e. cc) ∙ ready.left_is C used
 
-pub stopped_b : (p : Schedule) (input : Layer → List ℕ) (f : ℕ) (i : Inputs) (a : LayerInput) (l0 l1 l2 : Seat → Option (List ℕ)) → StepAt seats.A (filled p A f) i.a a l0 l1 → StopAt seats.B (filled p B f) i.b l1 l2 → IsReady p input f i l0 → ReadStopped p input f l2 seats.B
+pub stopped_b : (p : Schedule) (input : Layer → List ℕ) (f : ℕ) (i : Inputs) (a : LayerInput) (l0 l1 l2 : Seat → Option (List ℕ)) → StepAt seats.A (filled p A f) i.a a l0 l1 →
+    StopAt seats.B (filled p B f) i.b l1 l2 → IsReady p input f i l0 → ReadStopped p input f l2 seats.B
 stopped_b p input f i a l0 l1 l2 sa stop ready = stopped p input f i B l0 l1 l2 ready (sa.1 seats.B (λ e. cc)) stop earlier later
   where
     earlier : (y : Layer) → IsUsed p y → place_of y < 1 → l2 (seat_of y) ≡ Some (drop (bytes_before p (f + 1) y) (input y))
@@ -196,7 +209,9 @@ stopped_b p input f i a l0 l1 l2 sa stop ready = stopped p input f i B l0 l1 l2 
     later B used less = absurd (omega (arith, less))
     later C used less = stop.others seats.C (λ e. cc) ∙ sa.1 seats.C (λ e. cc) ∙ ready.left_is C used
 
-pub stopped_c : (p : Schedule) (input : Layer → List ℕ) (f : ℕ) (i : Inputs) (a b : LayerInput) (l0 l1 l2 l3 : Seat → Option (List ℕ)) → StepAt seats.A (filled p A f) i.a a l0 l1 → StepAt seats.B (filled p B f) i.b b l1 l2 → StopAt seats.C (filled p C f) i.c l2 l3 → IsReady p input f i l0 → ReadStopped p input f l3 seats.C
+pub stopped_c : (p : Schedule) (input : Layer → List ℕ) (f : ℕ) (i : Inputs) (a b : LayerInput) (l0 l1 l2 l3 : Seat → Option (List ℕ)) →
+    StepAt seats.A (filled p A f) i.a a l0 l1 → StepAt seats.B (filled p B f) i.b b l1 l2 → StopAt seats.C (filled p C f) i.c l2 l3 → IsReady p input f i l0 →
+    ReadStopped p input f l3 seats.C
 stopped_c p input f i a b l0 l1 l2 l3 sa sb stop ready = stopped p input f i C l0 l2 l3 ready (sb.1 seats.C (λ e. cc) ∙ sa.1 seats.C (λ e. cc)) stop earlier later
   where
     earlier : (y : Layer) → IsUsed p y → place_of y < 2 → l3 (seat_of y) ≡ Some (drop (bytes_before p (f + 1) y) (input y))

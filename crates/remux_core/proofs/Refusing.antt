@@ -37,13 +37,15 @@ first_byte first t bytes i k r less =
     ∙ get_or-drop (188 * first) bytes (188 * k) 0 ∙ ap (λ n. get_or bytes n 0) there
 
 -- a packet that was read, by its place in the input
-sync_at : (first t : ℕ) (bytes : List ℕ) (i : LayerInput) (k : ℕ) → IsRead first t bytes i → first ≤ k → 188 * (k - first) < i.count → HasSync (take i.count i.bytes.items) (k - first) → HasSync bytes k
+sync_at : (first t : ℕ) (bytes : List ℕ) (i : LayerInput) (k : ℕ) → IsRead first t bytes i → first ≤ k → 188 * (k - first) < i.count →
+    HasSync (take i.count i.bytes.items) (k - first) → HasSync bytes k
 sync_at first t bytes i k r from less has =
     let at : first + (k - first) ≡ k = omega (arith, from) in
     ap (λ n. get_or bytes (188 * n) 0) (sym at) ∙ sym (first_byte first t bytes i (k - first) r less) ∙ has
 
 -- the packets of the part begin with the sync byte
-pub synced : (first t : ℕ) (bytes : List ℕ) (i : LayerInput) (k : ℕ) → IsRead first t bytes i → IsGood (take i.count i.bytes.items) → first ≤ k → k < first + t → 188 * k < length bytes → HasSync bytes k
+pub synced : (first t : ℕ) (bytes : List ℕ) (i : LayerInput) (k : ℕ) → IsRead first t bytes i → IsGood (take i.count i.bytes.items) → first ≤ k → k < first + t →
+    188 * k < length bytes → HasSync bytes k
 synced first t bytes i k r good from below there =
     let len = read_length first t bytes i r in
     let count = r.count in
@@ -59,7 +61,8 @@ pub record PartRead (p : Schedule) (input : Layer → List ℕ) (f : ℕ) (x : L
   pub says : Says (take i.count i.bytes.items) part
 
 -- whole packets: the input isn't cut in this frame
-whole_part : (p : Schedule) (input : Layer → List ℕ) (f : ℕ) (x : Layer) (i : LayerInput) → IsRead (placed_before p x f) (filled p x f) (input x) i → IsWhole (take i.count i.bytes.items) → truncated_in p input f x ≡ None
+whole_part : (p : Schedule) (input : Layer → List ℕ) (f : ℕ) (x : Layer) (i : LayerInput) → IsRead (placed_before p x f) (filled p x f) (input x) i →
+    IsWhole (take i.count i.bytes.items) → truncated_in p input f x ≡ None
 whole_part p input f x i r whole =
     let len = read_length (placed_before p x f) (filled p x f) (input x) i r in
     let count = r.count in
@@ -74,7 +77,8 @@ whole_part p input f x i r whole =
       ]
     ]
 
-cut_says : (p : Schedule) (input : Layer → List ℕ) (f : ℕ) (x : Layer) (i : LayerInput) (part : Part) → IsRead (placed_before p x f) (filled p x f) (input x) i → Says (take i.count i.bytes.items) part → truncated_in p input f x ≡ cut_fault (seat_of x) part
+cut_says : (p : Schedule) (input : Layer → List ℕ) (f : ℕ) (x : Layer) (i : LayerInput) (part : Part) → IsRead (placed_before p x f) (filled p x f) (input x) i →
+    Says (take i.count i.bytes.items) part → truncated_in p input f x ≡ cut_fault (seat_of x) part
 cut_says p input f x i Good r says = whole_part p input f x i r says.whole
 cut_says p input f x i (NoSync k) r says = whole_part p input f x i r says.whole
 cut_says p input f x i (Cut over) r says =
@@ -92,7 +96,8 @@ cut_is p input f x i part r = cut_says p input f x i part r.read r.says
 none_some : {X : Type 0} (x : X) → Some x ≡ None → ⊥
 none_some x e = cc
 
-sync_says : (p : Schedule) (input : Layer → List ℕ) (f : ℕ) (x : Layer) (i : LayerInput) (part : Part) → IsRead (placed_before p x f) (filled p x f) (input x) i → Says (take i.count i.bytes.items) part → cut_fault (seat_of x) part ≡ None → bad_sync_in p input f x ≡ sync_fault (seat_of x) (placed_before p x f) part
+sync_says : (p : Schedule) (input : Layer → List ℕ) (f : ℕ) (x : Layer) (i : LayerInput) (part : Part) → IsRead (placed_before p x f) (filled p x f) (input x) i →
+    Says (take i.count i.bytes.items) part → cut_fault (seat_of x) part ≡ None → bad_sync_in p input f x ≡ sync_fault (seat_of x) (placed_before p x f) part
 sync_says p input f x i Good r says uncut =
     let len = read_length (placed_before p x f) (filled p x f) (input x) i r in
     let count = r.count in
@@ -108,7 +113,8 @@ sync_says p input f x i (NoSync k) r says uncut =
     (λ m from below. sync_at (placed_before p x f) (filled p x f) (input x) i m r from (omega (arith, from, below, within)) (says.before (m - placed_before p x f) (omega (arith, from, below))))
 sync_says p input f x i (Cut over) r says uncut = absurd (none_some (Truncated (seat_of x) over) uncut)
 
-sync_is : (p : Schedule) (input : Layer → List ℕ) (f : ℕ) (x : Layer) (i : LayerInput) (part : Part) → PartRead p input f x i part → cut_fault (seat_of x) part ≡ None → bad_sync_in p input f x ≡ sync_fault (seat_of x) i.first part
+sync_is : (p : Schedule) (input : Layer → List ℕ) (f : ℕ) (x : Layer) (i : LayerInput) (part : Part) → PartRead p input f x i part → cut_fault (seat_of x) part ≡ None →
+    bad_sync_in p input f x ≡ sync_fault (seat_of x) i.first part
 sync_is p input f x i part r uncut = sync_says p input f x i part r.read r.says uncut ∙ ap (λ n. sync_fault (seat_of x) n part) (sym r.first)
 
 -- ---- the limit
@@ -149,7 +155,8 @@ ors None None None None None (Some x) = refl
 ors None None None None None None = refl
 
 -- the first cause among the packets that were read is the frame's refusal
-pub refusal-read : (p : Schedule) (input : Layer → List ℕ) (limit f : ℕ) (i : Inputs) (pa pb pc : Part) → f < limit → PartRead p input f A i.a pa → PartRead p input f B i.b pb → PartRead p input f C i.c pc →
+pub refusal-read : (p : Schedule) (input : Layer → List ℕ) (limit f : ℕ) (i : Inputs) (pa pb pc : Part) → f < limit → PartRead p input f A i.a pa →
+    PartRead p input f B i.b pb → PartRead p input f C i.c pc →
     option_or (option_or (option_or (option_or (option_or (cut_fault (seat_of A) pa) (cut_fault (seat_of B) pb)) (cut_fault (seat_of C) pc)) (sync_fault (seat_of A) i.a.first pa)) (sync_fault (seat_of B) i.b.first pb)) (sync_fault (seat_of C) i.c.first pc) ≡ refusal p input limit f
 unfolding refusal
 refusal-read p input limit f i pa pb pc less ra rb rc =
@@ -186,7 +193,8 @@ all_good a b c (NoSync k) (NoSync l) (Cut m) sa sb sc ga gb gc e = absurd (cc)
 all_good a b c (NoSync k) (Cut l) pc sa sb sc ga gb gc e = absurd (cc)
 all_good a b c (Cut k) pb pc sa sb sc ga gb gc e = absurd (cc)
 
-pub all_layers : (i : Inputs) → IsGood (take i.a.count i.a.bytes.items) → IsGood (take i.b.count i.b.bytes.items) → IsGood (take i.c.count i.c.bytes.items) → (x : Layer) → IsGood (take (input_of i x).count (input_of i x).bytes.items)
+pub all_layers : (i : Inputs) → IsGood (take i.a.count i.a.bytes.items) → IsGood (take i.b.count i.b.bytes.items) → IsGood (take i.c.count i.c.bytes.items) → (x : Layer) →
+    IsGood (take (input_of i x).count (input_of i x).bytes.items)
 all_layers i a b c A = a
 all_layers i a b c B = b
 all_layers i a b c C = c
@@ -202,7 +210,8 @@ none_of : {X : Type 0} (a b c d e f g : Option X) → a ≡ None → b ≡ None 
 none_of a b c d e f g ha hb hc hd he hf hg = rw (ha, hb, hc, hd, he, hf, hg) refl
 
 -- a frame that is behind all inputs is refused for nothing but the limit
-pub refusal-past : (p : Schedule) (input : Layer → List ℕ) (limit f : ℕ) → too_long_at p input limit f ≡ None → ((x : Layer) → length (input x) ≤ 188 * placed_before p x f) → refusal p input limit f ≡ None
+pub refusal-past : (p : Schedule) (input : Layer → List ℕ) (limit f : ℕ) → too_long_at p input limit f ≡ None → ((x : Layer) → length (input x) ≤ 188 * placed_before p x f) →
+    refusal p input limit f ≡ None
 unfolding refusal
 refusal-past p input limit f soon past =
     none_of (too_long_at p input limit f) (truncated_in p input f A) (truncated_in p input f B) (truncated_in p input f C) (bad_sync_in p input f A) (bad_sync_in p input f B) (bad_sync_in p input f C)

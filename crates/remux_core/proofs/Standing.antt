@@ -50,7 +50,8 @@ stands-next p f i j o o' s r = record {
 -- ---- at the start
 
 -- the most packets of a layer that no setting uses
-none_from : (first : Parameters) (x : Layer) (last : ℕ) (ws : List Switch) → RisesFrom last first ws → layer_of first x ≡ None → greatest_from (λ t. number_of (packets_per_frame t.mode) (layer_of t.setting x)) 0 ws ≡ 0
+none_from : (first : Parameters) (x : Layer) (last : ℕ) (ws : List Switch) → RisesFrom last first ws → layer_of first x ≡ None →
+    greatest_from (λ t. number_of (packets_per_frame t.mode) (layer_of t.setting x)) 0 ws ≡ 0
 none_from first x last [] r e = refl
 none_from first x last (w ∷ ws) r e = rw (packets-unused w.after x (layers_none first w.after.setting x r.3 e)) (none_from first x w.frame ws r.4 e)
 

@@ -24,9 +24,12 @@ layer_at p f x = layer_of (at_frame p f).setting x
 abbrev pub frame_delay : Schedule → ℕ → Layer → ℕ
 frame_delay p f x = number_of (layer_delay (at_frame p f).mode) (layer_at p f x)
 
--- how many input packets a frame places of a layer: its packets where they will be given out within the epoch, else none
+-- how many input packets a frame places of a layer, where this holds at the frame: its packets where they will be given out within the epoch, else none
+abbrev pub filled_at : At → ℕ → Layer → ℕ
+filled_at at f x = number_of (λ l. if leaves_after f at.end (layer_delay at.mode l) then packets_per_frame at.mode l else 0) (layer_of at.setting x)
+
 abbrev pub filled : Schedule → Layer → ℕ → ℕ
-filled p x f = number_of (λ l. if leaves_after f (at_frame p f).end (layer_delay (at_frame p f).mode l) then packets_per_frame (at_frame p f).mode l else 0) (layer_at p f x)
+filled p x f = filled_at (at_frame p f) f x
 
 -- how many input packets of a layer the frames before a frame place
 unfoldable pub placed_before : Schedule → Layer → ℕ → ℕ

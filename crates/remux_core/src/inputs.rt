@@ -93,17 +93,16 @@ impl Inputs {
 
     /// Where the last epoch begins at the limit: asks each input that goes on for one byte more, A first. With none there
     /// are as many frames as the limit.
-    pub fn ask<H: Shelf>(&self, plan: &Plan, limit: u32, shelf: &mut H) -> Result<u32, RemuxFault>
-        requires plan { IsPlan plan.now }
-        requires begins { last_start plan.now ≡ limit }
-        requires stands { Stands plan.now limit self.now (H.is_open shelf.old) }
-        ensures answer { (input : Which → List ℕ) (before after : Option (List ℕ)) → Progress plan.now input limit limit self.now (H.left shelf.old) before after
-            → RemuxAnswer plan.now input limit before after (H.left shelf.new) result }
+    pub fn ask<H: Shelf>(&self, limit: u32, shelf: &mut H) -> Result<u32, RemuxFault>
+        requires seats { HasSeats self.now }
+        requires is_open { (x : Which) → (input_of self.now x).ended ≡ false → H.is_open shelf.old (seat_of x) ≡ true }
+        ensures answer { (p : Schedule) (input : Which → List ℕ) (before after : Option (List ℕ)) → IsPlan p → last_start p ≡ limit
+            → Progress p input limit limit self.now (H.left shelf.old) before after → RemuxAnswer p input limit before after (H.left shelf.new) result }
         ensures still_open { H.is_open shelf.new ≡ H.is_open shelf.old }
-        ensures cause { (sink : ℕ) → RemuxCause plan.now (H.faults shelf.old) (H.faults shelf.new) sink sink result }
+        ensures cause { (p : Schedule) (f sink : ℕ) → Stands p f self.now (H.is_open shelf.old)
+            → RemuxCause p (H.faults shelf.old) (H.faults shelf.new) sink sink result }
         ensures reached { (room : Option ℕ) (written : Option (List ℕ)) → AnswerRoom remux_kind room written result }
     {
-        let _plan = plan;
         self.a.ask(shelf)?;
         self.b.ask(shelf)?;
         self.c.ask(shelf)?;

@@ -50,7 +50,7 @@ pub fn remux<H: Shelf, K: Sink>(
     let mut buffers = Buffers { inputs, out };
     let start = write_epochs(alloc, plan, limit, &mut buffers, shelf, sink)?;
     if start == limit {
-        return buffers.inputs.ask(plan, limit, shelf);
+        return buffers.inputs.ask(limit, shelf);
     }
     write_last(alloc, plan, start, limit, &mut buffers, shelf, sink)
 }

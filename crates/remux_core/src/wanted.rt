@@ -3,8 +3,8 @@
 ghost use Rattle.std.specs.Prelude.{◌≡◌, ◌≤◌};
 ghost use Rattle.isdbt_base.specs.declared.kinds.Layer.{Layer as Which};
 ghost use Rattle.isdbt_base.specs.Epochs.{leaves_after};
-ghost use Rattle.remux_core.specs.Multiplex.{filled};
-ghost use Rattle.remux_core.specs.Wanted.{wanted_of, filled_at};
+ghost use Rattle.remux_core.specs.Multiplex.{filled, filled_at};
+ghost use Rattle.remux_core.specs.Wanted.{wanted_of};
 
 use isdbt_base::{At, Layer, Plan};
 

@@ -36,12 +36,15 @@ write_frame-requires-clause-size g c =
 
 pub returns-in-Err-clause-answer : goal.returns-in-Err-clause-answer
 returns-in-Err-clause-answer g c = λ input limit before few start.
+    let left' = g.H.Shelf.left c.read_frame.new.shelf in
+    let j = c.read_frame.new.inputs in
+    let p = c.args.plan.now in
     let so_far = c.loop-frame.invariant.told input limit before few start in
-    let read : FrameRead c.args.plan.now input limit c.loop-frame.frame c.read_frame.new.inputs (g.H.Shelf.left c.read_frame.new.shelf) = c.in_ok-read_frame.ensures.answer input limit (omega (arith, few)) so_far.ready in
-    let least = frame_count-least c.args.plan.now (packet_count input) in
+    let read : FrameRead p input limit c.loop-frame.frame j left' = c.in_ok-read_frame.ensures.answer input limit (omega (arith, few)) so_far.ready in
+    let least = frame_count-least p (packet_count input) in
     let failed = c.in-Err.ensures.some in
-    let made = made_of_read c.args.plan.now c.args.order.now input c.loop-frame.frame c.read_frame.new.inputs c.packets_of-packets.result (c.requires.order c.loop-frame.frame (omega arith) (omega arith)) c.packets_of-packets.ensures.bytes read.read.each in
-    write_fault c.args.plan.now input limit c.loop-frame.frame failed.0 c.loop-frame.buffers.inputs c.read_frame.new.inputs (g.H.Shelf.left c.loop-frame.shelf) (g.H.Shelf.left c.read_frame.new.shelf) before (g.K.Sink.written c.loop-frame.sink) (g.K.Sink.written c.write_frame.new.sink)
+    let made = made_of_read p c.args.order.now input c.loop-frame.frame j c.packets_of-packets.result (c.requires.order c.loop-frame.frame (omega arith) (omega arith)) c.packets_of-packets.ensures.bytes read.read.each in
+    write_fault p input limit c.loop-frame.frame failed.0 c.loop-frame.buffers.inputs j (g.H.Shelf.left c.loop-frame.shelf) left' before (g.K.Sink.written c.loop-frame.sink) (g.K.Sink.written c.write_frame.new.sink)
     (record { so_far = so_far; read = read }) (omega (arith, least)) (wrote_some _ _ failed.0 _ _ made failed.1 failed.2)
 
 pub returns-in-Err-clause-cause : goal.returns-in-Err-clause-cause
@@ -53,11 +56,14 @@ loop-frame-preserved g c = record {
   stands = c.in_ok-read_frame.ensures.stands;
   size = c.loop-frame.invariant.size;
   told = λ input limit before few start. (
+      let left' = g.H.Shelf.left c.read_frame.new.shelf in
+      let j = c.read_frame.new.inputs in
+      let p = c.args.plan.now in
       let so_far = c.loop-frame.invariant.told input limit before few start in
-      let read : FrameRead c.args.plan.now input limit c.loop-frame.frame c.read_frame.new.inputs (g.H.Shelf.left c.read_frame.new.shelf) = c.in_ok-read_frame.ensures.answer input limit (omega (arith, few)) so_far.ready in
-      let least = frame_count-least c.args.plan.now (packet_count input) in
-      let made = made_of_read c.args.plan.now c.args.order.now input c.loop-frame.frame c.read_frame.new.inputs c.packets_of-packets.result (c.requires.order c.loop-frame.frame (omega arith) (omega arith)) c.packets_of-packets.ensures.bytes read.read.each in
-      next c.args.plan.now input limit c.loop-frame.frame c.loop-frame.buffers.inputs c.read_frame.new.inputs (g.H.Shelf.left c.loop-frame.shelf) (g.H.Shelf.left c.read_frame.new.shelf) before (g.K.Sink.written c.loop-frame.sink) (g.K.Sink.written c.write_frame.new.sink)
+      let read : FrameRead p input limit c.loop-frame.frame j left' = c.in_ok-read_frame.ensures.answer input limit (omega (arith, few)) so_far.ready in
+      let least = frame_count-least p (packet_count input) in
+      let made = made_of_read p c.args.order.now input c.loop-frame.frame j c.packets_of-packets.result (c.requires.order c.loop-frame.frame (omega arith) (omega arith)) c.packets_of-packets.ensures.bytes read.read.each in
+      next p input limit c.loop-frame.frame c.loop-frame.buffers.inputs j (g.H.Shelf.left c.loop-frame.shelf) left' before (g.K.Sink.written c.loop-frame.sink) (g.K.Sink.written c.write_frame.new.sink)
       (record { so_far = so_far; read = read }) (omega (arith, least)) (wrote_all _ _ _ _ made c.in-Ok.ensures.ok));
   room = c.in-Ok.ensures.room ∙ c.loop-frame.invariant.room;
   still_open = c.in_ok-read_frame.ensures.still_open ∙ c.loop-frame.invariant.still_open;

@@ -8,10 +8,14 @@ use Rattle.remux_core.proofs.epochs.write_epochs.Goals as goal
 
 pub returns-then-start-limit-clause-answer : goal.returns-then-start-limit-clause-answer
 returns-then-start-limit-clause-answer g c = λ input before start.
+    let left = g.H.Shelf.left c.loop-end.shelf in
+    let now = g.K.Sink.written c.loop-end.sink in
+    let i = c.loop-end.buffers.inputs in
+    let p = c.args.plan.now in
     let here : c.loop-end.start ≡ c.args.limit = c.if-start-limit.true in
-    let so_far = subst (λ (f : ℕ). Progress c.args.plan.now input c.args.limit f c.loop-end.buffers.inputs (g.H.Shelf.left c.loop-end.shelf) before (g.K.Sink.written c.loop-end.sink)) here (c.loop-end.invariant.told input before start) in
-    let there = there-before c.args.plan.now input c.loop-end.start c.in-Some.end c.requires.plan (ap (λ at. at.end) (sym c.at.ensures.value) ∙ c.in-Some.is) in
-    too_long c.args.plan.now input c.args.limit c.loop-end.buffers.inputs (g.H.Shelf.left c.loop-end.shelf) before (g.K.Sink.written c.loop-end.sink) so_far (omega (arith, there, here))
+    let so_far = subst (λ (f : ℕ). Progress p input c.args.limit f i left before now) here (c.loop-end.invariant.told input before start) in
+    let there = there-before p input c.loop-end.start c.in-Some.end c.requires.plan (ap (λ at. at.end) (sym c.at.ensures.value) ∙ c.in-Some.is) in
+    too_long p input c.args.limit i left before now so_far (omega (arith, there, here))
 
 pub returns-in_default-order_at-clause-answer : goal.returns-in_default-order_at-clause-answer
 returns-in_default-order_at-clause-answer g c = λ input before start.

@@ -11,9 +11,11 @@ loop-frame-init g c = record { within = c.requires.frames; size = refl; told = �
 
 pub returns-then-frame-limit-clause-answer : goal.returns-then-frame-limit-clause-answer
 returns-then-frame-limit-clause-answer g c = λ input before left none done.
+    let mid = g.K.Sink.written c.loop-frame.sink in
+    let p = c.args.plan.now in
     let here : c.loop-frame.frame ≡ c.args.limit = omega arith in
-    drain_too_long c.args.plan.now input c.args.limit c.args.frames c.args.end before (g.K.Sink.written c.args.sink.now) (g.K.Sink.written c.loop-frame.sink) left (record { plan = c.requires.plan; unused = none; some = c.requires.some; end_is = c.requires.end; done = done }) (omega arith) (omega arith)
-    (subst (λ (f : ℕ). Passed (remux_command c.args.plan.now input c.args.limit) f × Wrote (remux_command c.args.plan.now input c.args.limit) f before (g.K.Sink.written c.loop-frame.sink)) here (c.loop-frame.invariant.told input before left none done))
+    drain_too_long p input c.args.limit c.args.frames c.args.end before (g.K.Sink.written c.args.sink.now) mid left (record { plan = c.requires.plan; unused = none; some = c.requires.some; end_is = c.requires.end; done = done }) (omega arith) (omega arith)
+    (subst (λ (f : ℕ). Passed (remux_command p input c.args.limit) f × Wrote (remux_command p input c.args.limit) f before mid) here (c.loop-frame.invariant.told input before left none done))
 
 pub write_frame-requires-clause-size : goal.write_frame-requires-clause-size
 write_frame-requires-clause-size g c =
@@ -22,10 +24,12 @@ write_frame-requires-clause-size g c =
 
 pub returns-in-Err-clause-answer : goal.returns-in-Err-clause-answer
 returns-in-Err-clause-answer g c = λ input before left none done.
+    let old = g.K.Sink.written c.args.sink.now in
+    let p = c.args.plan.now in
     let failed = c.in-Err.ensures.some in
-    let made = made_of_none c.args.plan.now c.args.order.now input c.loop-frame.frame c.no_packets.result (c.requires.order ∙ sym (sent-last c.args.plan.now c.loop-frame.frame c.requires.plan (let first = c.requires.some in omega (arith, first))))
-    (behind_data c.args.plan.now input c.args.limit c.args.frames c.loop-frame.frame before (g.K.Sink.written c.args.sink.now) left done (omega arith)) c.no_packets.ensures.bytes in
-    drain_failed c.args.plan.now input c.args.limit c.args.frames c.args.end c.loop-frame.frame failed.0 before (g.K.Sink.written c.args.sink.now) (g.K.Sink.written c.loop-frame.sink) (g.K.Sink.written c.write_frame.new.sink) left (record { plan = c.requires.plan; unused = none; some = c.requires.some; end_is = c.requires.end; done = done }) (omega arith) (omega arith) (omega arith)
+    let made = made_of_none p c.args.order.now input c.loop-frame.frame c.no_packets.result (c.requires.order ∙ sym (sent-last p c.loop-frame.frame c.requires.plan (let first = c.requires.some in omega (arith, first))))
+    (behind_data p input c.args.limit c.args.frames c.loop-frame.frame before old left done (omega arith)) c.no_packets.ensures.bytes in
+    drain_failed p input c.args.limit c.args.frames c.args.end c.loop-frame.frame failed.0 before old (g.K.Sink.written c.loop-frame.sink) (g.K.Sink.written c.write_frame.new.sink) left (record { plan = c.requires.plan; unused = none; some = c.requires.some; end_is = c.requires.end; done = done }) (omega arith) (omega arith) (omega arith)
     (c.loop-frame.invariant.told input before left none done) (wrote_some _ _ failed.0 _ _ made failed.1 failed.2)
 
 pub loop-frame-preserved : goal.loop-frame-preserved
@@ -33,9 +37,11 @@ loop-frame-preserved g c = record {
   within = omega arith;
   size = c.in-Ok.ensures.size ∙ c.loop-frame.invariant.size;
   told = λ input before left none done. (
-      let made = made_of_none c.args.plan.now c.args.order.now input c.loop-frame.frame c.no_packets.result (c.requires.order ∙ sym (sent-last c.args.plan.now c.loop-frame.frame c.requires.plan (let first = c.requires.some in omega (arith, first))))
-      (behind_data c.args.plan.now input c.args.limit c.args.frames c.loop-frame.frame before (g.K.Sink.written c.args.sink.now) left done (omega arith)) c.no_packets.ensures.bytes in
-      drained_more c.args.plan.now input c.args.limit c.args.frames c.args.end c.loop-frame.frame before (g.K.Sink.written c.args.sink.now) (g.K.Sink.written c.loop-frame.sink) (g.K.Sink.written c.write_frame.new.sink) left (record { plan = c.requires.plan; unused = none; some = c.requires.some; end_is = c.requires.end; done = done }) (omega arith) (omega arith) (omega arith)
+      let old = g.K.Sink.written c.args.sink.now in
+      let p = c.args.plan.now in
+      let made = made_of_none p c.args.order.now input c.loop-frame.frame c.no_packets.result (c.requires.order ∙ sym (sent-last p c.loop-frame.frame c.requires.plan (let first = c.requires.some in omega (arith, first))))
+      (behind_data p input c.args.limit c.args.frames c.loop-frame.frame before old left done (omega arith)) c.no_packets.ensures.bytes in
+      drained_more p input c.args.limit c.args.frames c.args.end c.loop-frame.frame before old (g.K.Sink.written c.loop-frame.sink) (g.K.Sink.written c.write_frame.new.sink) left (record { plan = c.requires.plan; unused = none; some = c.requires.some; end_is = c.requires.end; done = done }) (omega arith) (omega arith) (omega arith)
       (c.loop-frame.invariant.told input before left none done) (wrote_all _ _ _ _ made c.in-Ok.ensures.ok));
   room = c.in-Ok.ensures.room ∙ c.loop-frame.invariant.room;
   kept = c.in-Ok.ensures.cause.kept ∙ c.loop-frame.invariant.kept;
@@ -43,6 +49,8 @@ loop-frame-preserved g c = record {
 
 pub returns-clause-answer : goal.returns-clause-answer
 returns-clause-answer g c = λ input before left none done.
+    let mid = g.K.Sink.written c.loop-frame.sink in
+    let p = c.args.plan.now in
     let end : c.loop-frame.frame ≡ c.args.end = (let all = c.requires.end in omega (arith, all)) in
-    drained_all c.args.plan.now input c.args.limit c.args.frames c.args.end before (g.K.Sink.written c.args.sink.now) (g.K.Sink.written c.loop-frame.sink) left (record { plan = c.requires.plan; unused = none; some = c.requires.some; end_is = c.requires.end; done = done })
-    (subst (λ (f : ℕ). Passed (remux_command c.args.plan.now input c.args.limit) f × Wrote (remux_command c.args.plan.now input c.args.limit) f before (g.K.Sink.written c.loop-frame.sink)) end (c.loop-frame.invariant.told input before left none done))
+    drained_all p input c.args.limit c.args.frames c.args.end before (g.K.Sink.written c.args.sink.now) mid left (record { plan = c.requires.plan; unused = none; some = c.requires.some; end_is = c.requires.end; done = done })
+    (subst (λ (f : ℕ). Passed (remux_command p input c.args.limit) f × Wrote (remux_command p input c.args.limit) f before mid) end (c.loop-frame.invariant.told input before left none done))

@@ -9,16 +9,21 @@ use Rattle.remux_core.proofs.last_epoch.write_last.Goals as goal
 
 pub returns-in_default-clause-answer : goal.returns-in_default-clause-answer
 returns-in_default-clause-answer g c = λ input before start.
-    no_memory_at c.args.plan.now input c.args.limit c.args.start c.args.buffers.now.inputs (g.H.Shelf.left c.args.shelf.now) before (g.K.Sink.written c.args.sink.now) start
-    (subst (λ (f : ℕ). (f ≡ 0) ⊎ (begins_later c.args.plan.now f ≡ true)) (sym c.requires.last) (last-begins c.args.plan.now c.requires.plan))
+    let p = c.args.plan.now in
+    no_memory_at p input c.args.limit c.args.start c.args.buffers.now.inputs (g.H.Shelf.left c.args.shelf.now) before (g.K.Sink.written c.args.sink.now) start
+    (subst (λ (f : ℕ). (f ≡ 0) ⊎ (begins_later p f ≡ true)) (sym c.requires.last) (last-begins p c.requires.plan))
 
 pub write_data-requires-clause-order : goal.write_data-requires-clause-order
 write_data-requires-clause-order g c = c.in-Ok.ensures ∙ sent-last c.args.plan.now c.args.start c.requires.plan (let first = c.requires.last in omega (arith, first))
 
 pub returns-then-frames-start-clause-answer : goal.returns-then-frames-start-clause-answer
 returns-then-frames-start-clause-answer g c = λ input before start.
-    let done : DataDone c.args.plan.now input c.args.limit c.in_ok-frames.frames before (g.K.Sink.written c.write_data.new.sink) (g.H.Shelf.left c.write_data.new.shelf) = c.in_ok-frames.ensures.answer input before start in
-    no_data c.args.plan.now input c.args.limit c.in_ok-frames.frames before (g.K.Sink.written c.write_data.new.sink) (g.H.Shelf.left c.write_data.new.shelf) c.requires.plan (λ x none. (start.ready.unused x none).1) (c.if-frames-start.true ∙ c.requires.last) done
+    let left = g.H.Shelf.left c.write_data.new.shelf in
+    let now = g.K.Sink.written c.write_data.new.sink in
+    let p = c.args.plan.now in
+    let frames = c.in_ok-frames.frames in
+    let done : DataDone p input c.args.limit frames before now left = c.in_ok-frames.ensures.answer input before start in
+    no_data p input c.args.limit frames before now left c.requires.plan (λ x none. (start.ready.unused x none).1) (c.if-frames-start.true ∙ c.requires.last) done
 
 pub drain-requires-clause-order : goal.drain-requires-clause-order
 drain-requires-clause-order g c = c.in-Ok.ensures ∙ sent-last c.args.plan.now c.args.start c.requires.plan (let first = c.requires.last in omega (arith, first))
