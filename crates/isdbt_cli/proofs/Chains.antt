@@ -1,11 +1,13 @@
 -- The commands one after another.
-use Rattle.std.proofs.Common.{◌≡◌, ℕ, ◌≤◌, List, [], None, Some, refl, sym, subst, arith}
+use Rattle.std.proofs.Common.{◌≡◌, ℕ, ◌≤◌, List, [], ◌∷◌, None, Some, refl, sym, ◌∙◌, subst, arith, inl, inr}
+use Rattle.std.proofs.lemmas.Bool.{cases_lt}
 use Rattle.std.specs.Prelude.{false}
 use Rattle.std.specs.declared.option.Option.{Option}
 use Rattle.isdbt_base.specs.declared.kinds.Mode.{Mode}
 use Rattle.isdbt_base.specs.declared.kinds.Guard.{Guard}
 use Rattle.isdbt_base.specs.declared.kinds.Layer.{Layer}
-use Rattle.isdbt_base.specs.Plans.{Schedule, IsPlan}
+use Rattle.isdbt_base.specs.Plans.{Transmission, Switch, Schedule, IsPlan, KeepsMode, at_frame, at_from}
+use Rattle.isdbt_base.proofs.PlanEpochs.{at_from-after, at_from-before}
 use Rattle.isdbt_base.specs.Frames.{FramePackets}
 use Rattle.isdbt_base.specs.Outcome.{product, ArePassed}
 use Rattle.gf_rs.specs.Codewords.{IsBytes}
@@ -58,23 +60,35 @@ chain p mode guard input count plan has good bytes few =
 
 -- ---- a coding that is done
 
--- a plan without switches sends all frames alike
-pub sends_alike : (p : Schedule) (count : ℕ) → p.switches ≡ [] → SendsIn p.first.mode p.first.guard p count
-sends_alike p count none f less = (rw none refl, rw none refl)
+-- what holds at a frame has the mode and the guard interval that all switches keep
+keeps_from : (t : Transmission) (start : ℕ) (ws : List Switch) (f : ℕ) → KeepsMode t ws → ((at_from t start ws f).mode ≡ t.mode) × ((at_from t start ws f).guard ≡ t.guard)
+keeps_from t start [] f k = (refl, refl)
+keeps_from t start (w ∷ ws) f k =
+    elim (cases_lt f w.frame) [
+      | inl before ↦ rw (at_from-before t start w ws f before) (refl, refl)
+      | inr after ↦ rw (at_from-after t start w ws f after) (let later = keeps_from w.after w.frame ws f k.2 in (later.0 ∙ k.0, later.1 ∙ k.1))
+    ]
+
+pub keeps_frame : (p : Schedule) (f : ℕ) → KeepsMode p.first p.switches → ((at_frame p f).mode ≡ p.first.mode) × ((at_frame p f).guard ≡ p.first.guard)
+keeps_frame p f k = keeps_from p.first 0 p.switches f k
+
+-- a plan whose switches keep the mode and the guard interval sends all frames in them
+pub sends_alike : (p : Schedule) (count : ℕ) → KeepsMode p.first p.switches → SendsIn p.first.mode p.first.guard p count
+sends_alike p count keeps f less = keeps_frame p f keeps
 
 -- its cells are near the packets that were found
-found_near : (p : Schedule) (input : List ℕ) (m : ℕ) (o : Option ℕ) → IsPlan p → p.switches ≡ [] → IsBytes input → ArePassed (code_refusal p input frame_limit) (is_there p input) m → first_head input ≡ o
+found_near : (p : Schedule) (input : List ℕ) (m : ℕ) (o : Option ℕ) → IsPlan p → KeepsMode p.first p.switches → IsBytes input → ArePassed (code_refusal p input frame_limit) (is_there p input) m → first_head input ≡ o
     → ArePackets p (frames_from p input o) m × IsNear (first_version p.first.mode p.first.guard (product (coded_frame p input) m)) p (frames_from p input o) m
-found_near p input m None plan none bytes passed found =
+found_near p input m None plan keeps bytes passed found =
     let empty = coded-none p input m frame_limit passed found in
     let frames : FramePackets = frames_from p input None in
     let packets : ArePackets p frames m = λ f j x l less used within. absurd (omega (arith, less, empty.0)) in
-    let near = near_cells p frames m p.first.mode p.first.guard plan (sends_alike p m none) packets in
+    let near = near_cells p frames m p.first.mode p.first.guard plan (sends_alike p m keeps) packets in
     let same : product (frame_cells p frames) m ≡ product (coded_frame p input) m = product-same (frame_cells p frames) (coded_frame p input) m (λ f less. absurd (omega (arith, less, empty.0))) in
     (packets, subst (λ cells. IsNear (first_version p.first.mode p.first.guard cells) p frames m) same near)
-found_near p input m (Some head) plan none bytes passed found = coded-near p.first.mode p.first.guard p input m frame_limit head plan bytes passed (sends_alike p m none) found
+found_near p input m (Some head) plan keeps bytes passed found = coded-near p.first.mode p.first.guard p input m frame_limit head plan bytes passed (sends_alike p m keeps) found
 
-pub wrote_near : (p : Schedule) (input : List ℕ) (m : ℕ) (before after left : Option (List ℕ)) → IsPlan p → p.switches ≡ [] → IsBytes input → Finished (code_command p input frame_limit) m before after left → WroteNear p input m before after
-wrote_near p input m before after left plan none bytes done =
-    let near = found_near p input m (first_head input) plan none bytes done.ended.outcome.before refl in
+pub wrote_near : (p : Schedule) (input : List ℕ) (m : ℕ) (before after left : Option (List ℕ)) → IsPlan p → KeepsMode p.first p.switches → IsBytes input → Finished (code_command p input frame_limit) m before after left → WroteNear p input m before after
+wrote_near p input m before after left plan keeps bytes done =
+    let near = found_near p input m (first_head input) plan keeps bytes done.ended.outcome.before refl in
     record { packets = near.0; near = near.1; written = done.ended.written }

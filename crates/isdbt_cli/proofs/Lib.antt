@@ -3,6 +3,10 @@ pub mod Texts
 pub mod LayerTexts
 pub mod SettingWords
 pub mod Stuck
+pub mod Transmissions
+pub mod PlanSpelling
+pub mod SwitchStuck
+pub mod PlanLines
 pub mod Spelling
 pub mod CodeSpelling
 pub mod ReceiveSpelling

@@ -10,7 +10,7 @@ use Rattle.edge_io.specs.declared.shelf.Seat.TheVariants as seats
 use Rattle.edge_io.specs.Seats.{OthersKeep}
 use Rattle.remux_core.specs.Refusals.{seat_of}
 use Rattle.remux_core.specs.Frames.{packets_of}
-use Rattle.remux_core.specs.Answers.{IsPlain, IsUsed, Tells}
+use Rattle.remux_core.specs.Answers.{IsUsed, Tells}
 use Rattle.remux_core.proofs.Places.{used-some, unused-none}
 use Rattle.isdbt_cli.specs.CommandLines.{Word, IsRemux}
 use Rattle.isdbt_cli.specs.Run.{layer_names, lone_name, Hold, AreSeated, AreOpened, turn_of, OpenStopped}
@@ -23,19 +23,16 @@ none_of : {X : Type 0} (o : Option X) → is_some o ≡ false → o ≡ None
 none_of None e = refl
 none_of (Some x) e = absurd (cc)
 
-plain : (p : Schedule) (a : Word) (b c : Option Word) → IsRemux p a b c → IsPlain p
-plain p a b c r = record { no_switch = r.plan.no_switch; accepted = r.plan.accepted.first }
-
 -- a used layer has a name, and an unused one has none
 pub used_name : (p : Schedule) (a : Word) (b c : Option Word) (x : Layer) → IsRemux p a b c → IsUsed p x → (n : Word) × (layer_names a b c (seat_of x) ≡ Some n)
 used_name p a b c A r used = (a, refl)
-used_name p a b c B r used = (let l = used-some p B used in some_of b (r.b_used ∙ ap is_some l.1))
-used_name p a b c C r used = (let l = used-some p C used in some_of c (r.c_used ∙ ap is_some l.1))
+used_name p a b c B r used = (let l = used-some p.first B used in some_of b (r.b_used ∙ ap is_some l.1))
+used_name p a b c C r used = (let l = used-some p.first C used in some_of c (r.c_used ∙ ap is_some l.1))
 
 unused_name : (p : Schedule) (a : Word) (b c : Option Word) (x : Layer) → IsRemux p a b c → packets_of p.first x ≡ 0 → layer_names a b c (seat_of x) ≡ None
-unused_name p a b c A r none = absurd (let e = unused-none p A (plain p a b c r) none in cc)
-unused_name p a b c B r none = none_of b (r.b_used ∙ ap is_some (unused-none p B (plain p a b c r) none))
-unused_name p a b c C r none = none_of c (r.c_used ∙ ap is_some (unused-none p C (plain p a b c r) none))
+unused_name p a b c A r none = absurd (let e = unused-none p.first A r.plan.first none in cc)
+unused_name p a b c B r none = none_of b (r.b_used ∙ ap is_some (unused-none p.first B r.plan.first none))
+unused_name p a b c C r none = none_of c (r.c_used ∙ ap is_some (unused-none p.first C r.plan.first none))
 
 pub used_open : (p : Schedule) (a : Word) (b c : Option Word) (holds : Word → Option (List ℕ)) (left : Seat → Option (List ℕ)) (is_open : Seat → Bool) → IsRemux p a b c → AreOpened (layer_names a b c) holds left is_open → (x : Layer) → IsUsed p x → is_open (seat_of x) ≡ true
 used_open p a b c holds left is_open r o x used = (let n = used_name p a b c x r used in o.seats.named (seat_of x) n.0 n.1)

@@ -1,11 +1,13 @@
 -- Words are of one command at most, and have one place of a fault, or are a command's.
-use Rattle.std.proofs.Common.{◌≡◌, ℕ, ◌+◌, ◌<◌, ◌≤◌, List, [], ◌∷◌, ◌++◌, length, take, drop, sym, ap, ◌∙◌, subst, arith, take-append-drop, append_assoc, inl, inr}
+use Rattle.std.proofs.Common.{◌≡◌, ℕ, ◌+◌, ◌<◌, ◌≤◌, true, false, List, [], ◌++◌, length, take, drop, refl, sym, ap, ◌∙◌, subst, arith, take-append-drop, append_assoc, inl, inr}
 use Rattle.std.specs.Prelude.{codes, is_some}
 use Rattle.std.proofs.lemmas.List.{take-take, take_all, append-nil, append_cancel_left}
 use Rattle.std.proofs.lemmas.Bool.{cases_lt}
 use Rattle.isdbt_base.specs.Plans.{Schedule}
-use Rattle.isdbt_cli.specs.CommandLines.{Word, transmission_words, Command, remux, code, receive, Spells, CanGoOn, IsFaultAt}
-use Rattle.isdbt_cli.proofs.Spelling.{same_transmission, words_of-remux, words_of-code, words_of-receive, remux_or_code, remux_or_receive, code_or_receive, mode_word-injective, guard_word-injective, same_head, same_tail, names_words, same_names, name_of, first_word}
+use Rattle.isdbt_cli.specs.CommandLines.{Word, Command, remux, code, receive, Spells, CanGoOn, IsFaultAt}
+use Rattle.isdbt_cli.proofs.Transmissions.{mode_word-injective, guard_word-injective, same_head, same_tail}
+use Rattle.isdbt_cli.proofs.PlanLines.{names_words, input_words, remux_spelled, code_spelled, receive_spelled, remux_or_code, remux_or_receive, code_or_receive, remux_line, code_line, same_line}
+use Rattle.isdbt_cli.proofs.Spelling.{same_names, name_of, first_word}
 
 -- ---- the place is one
 
@@ -32,28 +34,31 @@ one_place words p q f g =
 pub no_place : (words : List Word) (c : Command) (p : ℕ) → Spells words c → IsFaultAt words p → ⊥
 no_place words c p s f =
     elim (cases_lt p (length words)) [
-      | inl less ↦ f.fault less (fewer words (p + 1) (length words) (omega (arith, less)) (c, [], subst (λ (ws : List Word). Spells ws c) (sym (append-nil (take (length words) words) ∙ take_all (length words) words (omega arith))) s))
+      | inl less ↦ f.fault less (fewer words (p + 1) (length words) (omega (arith, less)) (
+        c,
+        [],
+        subst (λ (ws : List Word). Spells ws c)
+            (sym (append-nil (take (length words) words) ∙ take_all (length words) words (omega arith))) s,
+      ))
       | inr past ↦ (let k = f.within in f.short (omega (arith, past, k)) c s)
     ]
 
 -- ---- the command is one
 
-same_plan : (p q : Schedule) → p.switches ≡ [] → q.switches ≡ [] → p.first ≡ q.first → p ≡ q
-same_plan p q none none' first = ap (λ v. record { first = v; switches = p.switches }) first ∙ ap (λ v. record { first = q.first; switches = v }) (none ∙ sym none')
-
 -- commands of the same words have the same first word
 same_first : (words : List Word) (c d : Command) → Spells words c → Spells words d → name_of c ≡ name_of d
-same_first words c d s t = same_head (sym (first_word c).1 ∙ sym s.spelled ∙ t.spelled ∙ (first_word d).1)
+same_first words c d s t = same_head (sym (first_word c words s.spelled).1 ∙ (first_word d words t.spelled).1)
 
 pub one_command : (words : List Word) (c d : Command) → Spells words c → Spells words d → c ≡ d
 one_command words (remux p a b c) (remux q a' b' c') s t =
-    let lines : codes "remux" ∷ (transmission_words p.first ++ names_words a b c) ≡ codes "remux" ∷ (transmission_words q.first ++ names_words a' b' c') = sym (words_of-remux p a b c) ∙ sym s.spelled ∙ t.spelled ∙ words_of-remux q a' b' c' in
-    let sent = same_transmission p.first q.first (names_words a b c) (names_words a' b' c') s.command.plan.accepted.first t.command.plan.accepted.first (ap (drop 1) lines) in
-    let plans = same_plan p q s.command.plan.no_switch t.command.plan.no_switch sent.0 in
-    let used_b : is_some b ≡ is_some b' = s.command.b_used ∙ ap (λ x. is_some x.setting.b) sent.0 ∙ sym t.command.b_used in
-    let used_c : is_some c ≡ is_some c' = s.command.c_used ∙ ap (λ x. is_some x.setting.c) sent.0 ∙ sym t.command.c_used in
-    let names = same_names a a' b b' c c' used_b used_c sent.1 in
-    ap (λ x. remux x a b c) plans ∙ ap (λ x. remux q x b c) names.0 ∙ ap (λ x. remux q a' x c) names.1 ∙ ap (λ x. remux q a' b' x) names.2
+    let k = remux_spelled p a b c words s.spelled in
+    let l = remux_spelled q a' b' c' words t.spelled in
+    let line : List Word = k.0 ++ names_words a b c in
+    let same = same_line false line (remux_line p a b c k.0 line s.command k.1 refl) (remux_line q a' b' c' l.0 line t.command l.1 (same_tail (sym k.2 ∙ l.2))) in
+    let used_b : is_some b ≡ is_some b' = s.command.b_used ∙ ap (λ (x : Schedule). is_some x.first.setting.b) same.0 ∙ sym t.command.b_used in
+    let used_c : is_some c ≡ is_some c' = s.command.c_used ∙ ap (λ (x : Schedule). is_some x.first.setting.c) same.0 ∙ sym t.command.c_used in
+    let names = same_names a a' b b' c c' used_b used_c same.1 in
+    ap (λ x. remux x a b c) same.0 ∙ ap (λ x. remux q x b c) names.0 ∙ ap (λ x. remux q a' x c) names.1 ∙ ap (λ x. remux q a' b' x) names.2
 one_command words (remux p a b c) (code q name) s t = absurd (remux_or_code (same_first words (remux p a b c) (code q name) s t))
 one_command words (remux p a b c) (receive m g name) s t = absurd (remux_or_receive (same_first words (remux p a b c) (receive m g name) s t))
 one_command words (code p name) (remux q a b c) s t = absurd (remux_or_code (same_first words (remux q a b c) (code p name) t s))
@@ -61,14 +66,15 @@ one_command words (code p name) (receive m g name') s t = absurd (code_or_receiv
 one_command words (receive m g name) (remux q a b c) s t = absurd (remux_or_receive (same_first words (remux q a b c) (receive m g name) t s))
 one_command words (receive m g name) (code q name') s t = absurd (code_or_receive (same_first words (code q name') (receive m g name) t s))
 one_command words (receive m g name) (receive m' g' name') s t =
-    let lines = sym (words_of-receive m g name) ∙ sym s.spelled ∙ t.spelled ∙ words_of-receive m' g' name' in
+    let lines = sym (receive_spelled m g name words s.spelled) ∙ receive_spelled m' g' name' words t.spelled in
     let modes = mode_word-injective m m' (same_head (same_tail lines)) in
     let guards = guard_word-injective g g' (same_head (same_tail (same_tail lines))) in
     let names : name ≡ name' = append_cancel_left (codes "IN=") name name' (same_head (same_tail (same_tail (same_tail lines)))) in
     ap (λ x. receive x g name) modes ∙ ap (λ x. receive m' x name) guards ∙ ap (λ x. receive m' g' x) names
 one_command words (code p name) (code q name') s t =
-    let lines : codes "code" ∷ (transmission_words p.first ++ ((codes "IN=" ++ name) ∷ [])) ≡ codes "code" ∷ (transmission_words q.first ++ ((codes "IN=" ++ name') ∷ [])) = sym (words_of-code p name) ∙ sym s.spelled ∙ t.spelled ∙ words_of-code q name' in
-    let sent = same_transmission p.first q.first ((codes "IN=" ++ name) ∷ []) ((codes "IN=" ++ name') ∷ []) s.command.plan.accepted.first t.command.plan.accepted.first (ap (drop 1) lines) in
-    let plans = same_plan p q s.command.plan.no_switch t.command.plan.no_switch sent.0 in
-    let names : name ≡ name' = append_cancel_left (codes "IN=") name name' (same_head sent.1) in
-    ap (λ x. code x name) plans ∙ ap (λ x. code q x) names
+    let k = code_spelled p name words s.spelled in
+    let l = code_spelled q name' words t.spelled in
+    let line : List Word = k.0 ++ input_words name in
+    let same = same_line true line (code_line p name k.0 line s.command k.1 refl) (code_line q name' l.0 line t.command l.1 (same_tail (sym k.2 ∙ l.2))) in
+    let names : name ≡ name' = append_cancel_left (codes "IN=") name name' (same_head same.1) in
+    ap (λ x. code x name) same.0 ∙ ap (λ x. code q x) names

@@ -1,12 +1,13 @@
 -- The words of the command receive: what may follow the words that were read.
-use Rattle.std.proofs.Common.{◌≡◌, List, [], ◌∷◌, ◌++◌, sym, ap, ◌∙◌}
+use Rattle.std.proofs.Common.{◌≡◌, List, [], ◌∷◌, ◌++◌, sym, subst}
 use Rattle.std.specs.Prelude.{codes}
 use Rattle.isdbt_base.specs.declared.kinds.Mode.{Mode}
 use Rattle.isdbt_base.specs.declared.kinds.Guard.{Guard}
 use Rattle.isdbt_base.specs.declared.kinds.Guard.TheVariants.{G4}
-use Rattle.isdbt_cli.specs.CommandLines.{Word, mode_word, guard_word, IsName, remux, code, receive, Spells}
+use Rattle.isdbt_cli.specs.CommandLines.{Word, mode_word, guard_word, IsName, remux, code, receive, SpellCommand, Spells}
 use Rattle.isdbt_cli.specs.Parsing.{BeginsWith, IsAny, Follows}
-use Rattle.isdbt_cli.proofs.Spelling.{some_name, same_head, same_tail, words_of-remux, words_of-code, words_of-receive, remux_or_receive, code_or_receive}
+use Rattle.isdbt_cli.proofs.Transmissions.{some_name, same_head, same_tail}
+use Rattle.isdbt_cli.proofs.PlanLines.{spell_receive, remux_spelled, code_spelled, receive_spelled, remux_or_receive, code_or_receive}
 
 -- mode and guard interval
 abbrev pub mode_words : Mode → Guard → List Word
@@ -17,7 +18,7 @@ abbrev pub read_name : Mode → Guard → Word → List Word
 read_name m g name = mode_words m g ++ ((codes "IN=" ++ name) ∷ [])
 
 pub follows : (m : Mode) (g : Guard) (name : Word) → IsName name → Follows (codes "receive") (read_name m g name)
-follows m g name some = (receive m g name, record { command = some; spelled = sym (words_of-receive m g name) })
+follows m g name some = (receive m g name, record { command = some; spelled = spell_receive m g name })
 
 -- a mode, a guard interval and a name whose words these are
 pub record IsReceive (words : List Word) : Type 0 where
@@ -28,9 +29,9 @@ pub record IsReceive (words : List Word) : Type 0 where
   pub words_are : words ≡ read_name mode guard name
 
 pub followed : (words : List Word) → Follows (codes "receive") words → IsReceive words
-followed words (remux p a b c, s) = absurd (remux_or_receive (sym (same_head (s.spelled ∙ words_of-remux p a b c))))
-followed words (code p name, s) = absurd (code_or_receive (sym (same_head (s.spelled ∙ words_of-code p name))))
-followed words (receive m g name, s) = record { mode = m; guard = g; name = name; some = s.command; words_are = same_tail (s.spelled ∙ words_of-receive m g name) }
+followed words (remux p a b c, s) = absurd (remux_or_receive (sym (same_head (remux_spelled p a b c (codes "receive" ∷ words) s.spelled).2)))
+followed words (code p name, s) = absurd (code_or_receive (sym (same_head (code_spelled p name (codes "receive" ∷ words) s.spelled).2)))
+followed words (receive m g name, s) = record { mode = m; guard = g; name = name; some = s.command; words_are = same_tail (receive_spelled m g name (codes "receive" ∷ words) s.spelled) }
 
 -- a mode may follow, and must
 pub follows_mode : (m : Mode) → IsAny m → (more : List Word) × Follows (codes "receive") ([] ++ (mode_word m ∷ [] ++ more))
@@ -58,4 +59,4 @@ pub end_follows : (m : Mode) (g : Guard) (name : Word) (ws : List Word) → Foll
 end_follows m g name ws f = (let r = followed (mode_word m ∷ guard_word g ∷ (codes "IN=" ++ name) ∷ ws) f in same_tail (same_tail (same_tail r.words_are)))
 
 pub spells : (m : Mode) (g : Guard) (name : Word) (words : List Word) → IsName name → words ≡ read_name m g name → Spells (codes "receive" ∷ words) (receive m g name)
-spells m g name words some e = record { command = some; spelled = ap (λ (ws : List Word). codes "receive" ∷ ws) e ∙ sym (words_of-receive m g name) }
+spells m g name words some e = record { command = some; spelled = subst (λ (ws : List Word). SpellCommand (receive m g name) (codes "receive" ∷ ws)) (sym e) (spell_receive m g name) }

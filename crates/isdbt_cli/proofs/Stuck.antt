@@ -5,7 +5,7 @@ use Rattle.std.specs.declared.option.Option.{Option}
 use Rattle.std.specs.declared.result.Result.{Result}
 use Rattle.std.proofs.lemmas.List.{append-nil}
 use Rattle.isdbt_cli.specs.CommandLines.{Word, Command, Spells, CanGoOn, IsFaultAt}
-use Rattle.isdbt_cli.specs.Parsing.{Unread, Reads, BeginsWith, IsStuck}
+use Rattle.isdbt_cli.specs.Parsing.{Unread, Reads, BeginsWith, IsStuck, StartsWith}
 
 -- ---- a rule of one word
 
@@ -13,7 +13,8 @@ same_head : {x y : Word} {xs ys : List Word} → x ∷ xs ≡ y ∷ ys → x ≡
 same_head e = cc
 
 -- no word is left
-pub missing : {X : Type 0} (Valid : X → Type 0) (text : X → Word) (x : X) → Valid x → (u : Unread) (place : ℕ) → (place ≡ u.place) × (u.words ≡ []) → IsStuck (BeginsWith Valid (λ y. text y ∷ [])) u place
+pub missing : {X : Type 0} (Valid : X → Type 0) (text : X → Word) (x : X) → Valid x → (u : Unread) (place : ℕ) → (place ≡ u.place) × (u.words ≡ [])
+    → IsStuck (BeginsWith Valid (λ y. text y ∷ [])) u place
 missing Valid text x valid u place says = record {
   front = [];
   rest = [];
@@ -24,7 +25,8 @@ missing Valid text x valid u place says = record {
 }
 
 -- the next word is no text
-pub wrong : {X : Type 0} (Valid : X → Type 0) (text : X → Word) (x : X) → Valid x → (u v : Unread) (place : ℕ) (w : Word) → place ≡ u.place → Reads (w ∷ []) u v → ((y : X) → Valid y → w ≢ text y) → IsStuck (BeginsWith Valid (λ y. text y ∷ [])) u place
+pub wrong : {X : Type 0} (Valid : X → Type 0) (text : X → Word) (x : X) → Valid x → (u v : Unread) (place : ℕ) (w : Word) → place ≡ u.place → Reads (w ∷ []) u v
+    → ((y : X) → Valid y → w ≢ text y) → IsStuck (BeginsWith Valid (λ y. text y ∷ [])) u place
 wrong Valid text x valid u v place w at reads other = record {
   front = [];
   rest = u.words;
@@ -56,7 +58,8 @@ behind_split : (read front rest : List Word) (u v : Unread) → u.words ≡ read
 behind_split read front rest u v e f = e ∙ ap (λ (xs : List Word). read ++ xs) f ∙ sym (append_assoc read front rest)
 
 -- what follows the words that were read is another language
-pub stuck_behind : (L M : List Word → Type 0) (read : List Word) (u v : Unread) (p : ℕ) → Reads read u v → ((ws : List Word) → L ws → M (read ++ ws)) → ((ws : List Word) → M (read ++ ws) → L ws) → IsStuck L v p → IsStuck M u p
+pub stuck_behind : (L M : List Word → Type 0) (read : List Word) (u v : Unread) (p : ℕ) → Reads read u v → ((ws : List Word) → L ws → M (read ++ ws))
+    → ((ws : List Word) → M (read ++ ws) → L ws) → IsStuck L v p → IsStuck M u p
 stuck_behind L M read u v p r up down s = record {
   front = read ++ s.front;
   rest = s.rest;
@@ -79,7 +82,8 @@ overlap (w ∷ front) tail (x ∷ xs) more e =
     ]
 
 -- what follows the words that were read begins with the text of a valid value, and each may follow
-pub stuck_piece : {X : Type 0} (Valid : X → Type 0) (text : X → List Word) (M : List Word → Type 0) (read : List Word) (u v : Unread) (p : ℕ) → Reads read u v → ((x : X) → Valid x → (more : List Word) × M (read ++ (text x ++ more)))
+pub stuck_piece : {X : Type 0} (Valid : X → Type 0) (text : X → List Word) (M : List Word → Type 0) (read : List Word) (u v : Unread) (p : ℕ) → Reads read u v
+    → ((x : X) → Valid x → (more : List Word) × M (read ++ (text x ++ more)))
     → ((ws : List Word) → M (read ++ ws) → BeginsWith Valid text ws) → IsStuck (BeginsWith Valid text) v p → IsStuck M u p
 stuck_piece {X = X} Valid text M read u v p r up down s = record {
   front = read ++ s.front;
@@ -92,25 +96,48 @@ stuck_piece {X = X} Valid text M read u v p r up down s = record {
   where
     go : (x : X) → Valid x → (more : List Word) → s.front ++ s.goes_on.0 ≡ text x ++ more → (tail : List Word) × M ((read ++ s.front) ++ tail)
     go x valid more e = elim (overlap s.front s.goes_on.0 (text x) more e) [
-      | inl o ↦ (let m = up x valid in
-          (o.0 ++ m.0, subst M (ap (λ (xs : List Word). read ++ (xs ++ m.0)) o.1 ∙ ap (λ (xs : List Word). read ++ xs) (append_assoc s.front o.0 m.0) ∙ sym (append_assoc read s.front (o.0 ++ m.0))) m.1))
+      | inl o ↦ (let m = up x valid in (
+        o.0 ++ m.0,
+        subst M (ap (λ (xs : List Word). read ++ (xs ++ m.0)) o.1 ∙ ap (λ (xs : List Word). read ++ xs) (append_assoc s.front o.0 m.0) ∙ sym
+            (append_assoc read s.front (o.0 ++ m.0))) m.1,
+      ))
       | inr o ↦ absurd (s.stuck s.rest (x, valid, o.0 ++ s.rest, ap (λ (xs : List Word). xs ++ s.rest) o.1 ∙ append_assoc (text x) o.0 s.rest) refl)
     ]
+
+-- the next word can't follow
+pub stuck_here : (M : List Word → Type 0) (read : List Word) (u v : Unread) (p : ℕ) → Reads read u v → p ≡ v.place → (tail : List Word) × M (read ++ tail)
+    → ((ws : List Word) → M (read ++ ws) → take 1 ws ≡ take 1 v.words → ⊥) → IsStuck M u p
+stuck_here M read u v p r at goes never = record { front = read; rest = v.words; split = r.split; place_is = at ∙ r.place; goes_on = goes; stuck = never }
 
 not_none : (xs : List Word) → xs ≢ [] → [] ≡ take 1 xs → ⊥
 not_none [] some e = some refl
 not_none (x ∷ xs) some e = absurd (cc)
 
 -- a word is left behind a whole list
-pub stuck_end : (M : List Word → Type 0) (read : List Word) (u v : Unread) (p : ℕ) → Reads read u v → p ≡ v.place → v.words ≢ [] → M read → ((tail : List Word) → M (read ++ tail) → tail ≡ []) → IsStuck M u p
-stuck_end M read u v p r at some whole only = record {
-  front = read;
-  rest = v.words;
-  split = r.split;
-  place_is = at ∙ r.place;
-  goes_on = ([], subst M (sym (append-nil read)) whole);
-  stuck = λ tail m heads. not_none v.words some (ap (take 1) (sym (only tail m)) ∙ heads);
-}
+pub stuck_end : (M : List Word → Type 0) (read : List Word) (u v : Unread) (p : ℕ) → Reads read u v → p ≡ v.place → v.words ≢ [] → M read
+    → ((tail : List Word) → M (read ++ tail) → tail ≡ []) → IsStuck M u p
+stuck_end M read u v p r at some whole only =
+    stuck_here M read u v p r at ([], subst M (sym (append-nil read)) whole) (λ tail m heads. not_none v.words some (ap (take 1) (sym (only tail m)) ∙ heads))
+
+-- where a rule of one word gets stuck, it is at the next word, which is no text
+pub misses : {X : Type 0} (Valid : X → Type 0) (text : X → Word) (u : Unread) (place : ℕ) → IsStuck (BeginsWith Valid (λ y. text y ∷ [])) u place
+    → (place ≡ u.place) × ((x : X) → Valid x → StartsWith (text x) u.words → ⊥)
+misses {X = X} Valid text u place s = go s.front s.rest s.split s.place_is s.goes_on s.stuck
+  where
+    go : (front rest : List Word) → u.words ≡ front ++ rest → place ≡ u.place + length front
+        → (tail : List Word) × BeginsWith Valid (λ y. text y ∷ []) (front ++ tail)
+        → ((tail : List Word) → BeginsWith Valid (λ y. text y ∷ []) (front ++ tail) → take 1 tail ≡ take 1 rest → ⊥)
+        → (place ≡ u.place) × ((x : X) → Valid x → StartsWith (text x) u.words → ⊥)
+    go [] rest split at goes stuck = (omega (arith, at), λ x valid heads. stuck (text x ∷ []) (x, valid, [], refl) (sym heads ∙ ap (take 1) split))
+    go (w ∷ front) rest split at goes stuck = absurd (stuck rest (goes.1.0, goes.1.1, front ++ rest, ap (λ (h : Word). h ∷ (front ++ rest)) (same_head goes.1.3)) refl)
+
+-- a rule of one word gets stuck, and what follows is a word of it wherever it begins with the next word
+pub stuck_word : {X : Type 0} (Valid : X → Type 0) (text : X → Word) (M : List Word → Type 0) (read : List Word) (u v : Unread) (p : ℕ) → Reads read u v
+    → IsStuck (BeginsWith Valid (λ y. text y ∷ [])) v p → (tail : List Word) × M (read ++ tail)
+    → ((ws : List Word) → M (read ++ ws) → take 1 ws ≡ take 1 v.words → BeginsWith Valid (λ y. text y ∷ []) ws) → IsStuck M u p
+stuck_word Valid text M read u v p r s goes down =
+    let m = misses Valid text v p s in
+    stuck_here M read u v p r m.0 goes (λ ws f heads. (let b = down ws f heads in m.1 b.0 b.1 (sym heads ∙ ap (take 1) b.3)))
 
 -- ---- the place of a fault
 
@@ -126,7 +153,8 @@ take-more (x ∷ front) rest = ap (λ (xs : List Word). x ∷ xs) (take-more fro
 abbrev pub AnyCommand : List Word → Type 0
 AnyCommand words = (c : Command) × Spells words c
 
-fault_there : (front rest : List Word) → (tail : List Word) × AnyCommand (front ++ tail) → ((tail : List Word) → AnyCommand (front ++ tail) → take 1 tail ≡ take 1 rest → ⊥) → IsFaultAt (front ++ rest) (length front)
+fault_there : (front rest : List Word) → (tail : List Word) × AnyCommand (front ++ tail)
+    → ((tail : List Word) → AnyCommand (front ++ tail) → take 1 tail ≡ take 1 rest → ⊥) → IsFaultAt (front ++ rest) (length front)
 fault_there front [] goes stuck = record {
   within = (let n = length-append {A = Word} front [] in omega (arith, n));
   before = subst CanGoOn (sym (take-front front [])) (goes.1.0, goes.0, goes.1.1);

@@ -12,7 +12,7 @@ use Rattle.isdbt_base.specs.declared.kinds.DepthCode.{DepthCode}
 use Rattle.isdbt_base.specs.LayerParameters.{LayerParameters}
 use Rattle.isdbt_base.specs.Parameters.{Parameters}
 use Rattle.isdbt_base.specs.Numbers.{time_depth}
-use Rattle.isdbt_base.specs.Plans.{Transmission, Schedule, IsPlan}
+use Rattle.isdbt_base.specs.Plans.{Transmission, Switch, Schedule, IsPlan, KeepsMode}
 
 -- a word is the bytes of its text
 abbrev pub Word : Type 0
@@ -67,9 +67,33 @@ setting_word mode s = codes "A:" ++ layer_text mode s.a ++ partial_text s.partia
 abbrev pub transmission_words : Transmission → List Word
 transmission_words t = mode_word t.mode ∷ guard_word t.guard ∷ setting_word t.mode t.setting ∷ []
 
--- a plan with no switch
-abbrev pub plan_words : Schedule → List Word
-plan_words p = transmission_words p.first
+-- a frame as one word
+abbrev pub frame_word : ℕ → Word
+frame_word frame = codes "@" ++ decimal frame
+
+-- mode and guard interval, if they are told
+abbrev pub told_words : Bool → Mode → Guard → List Word
+told_words true mode guard = mode_word mode ∷ guard_word guard ∷ []
+told_words false mode guard = []
+
+-- a switch's words: its frame, its mode and guard interval if they are told, and its setting in the mode after the switch
+abbrev pub switch_words : Bool → Switch → List Word
+switch_words told w = frame_word w.frame ∷ told_words told w.after.mode w.after.guard ++ setting_word w.after.mode w.after.setting ∷ []
+
+-- this is sent in that mode and with that guard interval
+abbrev pub IsIn : Mode → Guard → Transmission → Type 0
+IsIn mode guard t = (t.mode ≡ mode) × (t.guard ≡ guard)
+
+-- these words spell the switches behind this transmission: one after another, and a mode and a guard interval that are not told stay
+abbrev pub SpellSwitches : Transmission → List Switch → List Word → Type 0
+SpellSwitches t [] words = words ≡ []
+SpellSwitches t (w ∷ ws) words = (told : Bool) × (rest : List Word) × (words ≡ switch_words told w ++ rest) × (told ≡ false → IsIn t.mode t.guard w.after) × SpellSwitches w.after ws rest
+
+-- these words spell a plan: what frame 0 sends, and the switches
+pub record SpellPlan (p : Schedule) (words : List Word) : Type 0 where
+  pub behind : List Word
+  pub first : words ≡ transmission_words p.first ++ behind
+  pub switches : SpellSwitches p.first p.switches behind
 
 -- ---- how inputs are named
 
@@ -96,29 +120,26 @@ pub data Command : Type 0 where
   code : Schedule → Word → Command
   receive : Mode → Guard → Word → Command
 
--- the words of a command
-unfoldable pub words_of : Command → List Word
-words_of (remux p a b c) = codes "remux" ∷ plan_words p ++ input_word (codes "A") a ∷ other_input_words (codes "B") b ++ other_input_words (codes "C") c
-words_of (code p name) = codes "code" ∷ plan_words p ++ input_word (codes "IN") name ∷ []
-words_of (receive mode guard name) = codes "receive" ∷ mode_word mode ∷ guard_word guard ∷ input_word (codes "IN") name ∷ []
+-- these words spell a command
+unfoldable pub SpellCommand : Command → List Word → Type 0
+SpellCommand (remux p a b c) words =
+    (plan : List Word) × SpellPlan p plan × (words ≡ codes "remux" ∷ (plan ++ (input_word (codes "A") a ∷ (other_input_words (codes "B") b ++ other_input_words (codes "C") c))))
+SpellCommand (code p name) words = (plan : List Word) × SpellPlan p plan × (words ≡ codes "code" ∷ (plan ++ (input_word (codes "IN") name ∷ [])))
+SpellCommand (receive mode guard name) words = words ≡ codes "receive" ∷ mode_word mode ∷ guard_word guard ∷ input_word (codes "IN") name ∷ []
 
--- the plan is accepted and has no switch
-pub record IsSteady (p : Schedule) : Type 0 where
-  pub accepted : IsPlan p
-  pub no_switch : p.switches ≡ []
-
--- the plan is one that can be spelled, and exactly its layers' inputs are named
+-- the plan is accepted, and exactly its layers' inputs are named
 pub record IsRemux (p : Schedule) (a : Word) (b c : Option Word) : Type 0 where
-  pub plan : IsSteady p
+  pub plan : IsPlan p
   pub a_name : IsName a
   pub b_name : IsNameIfGiven b
   pub c_name : IsNameIfGiven c
   pub b_used : is_some b ≡ is_some p.first.setting.b
   pub c_used : is_some c ≡ is_some p.first.setting.c
 
--- the plan is one that can be spelled, and the input is named
+-- the plan is accepted, its switches keep the mode and the guard interval, and the input is named
 pub record IsCode (p : Schedule) (name : Word) : Type 0 where
-  pub plan : IsSteady p
+  pub plan : IsPlan p
+  pub keeps : KeepsMode p.first p.switches
   pub input_name : IsName name
 
 abbrev pub IsCommand : Command → Type 0
@@ -126,10 +147,10 @@ IsCommand (remux p a b c) = IsRemux p a b c
 IsCommand (code p name) = IsCode p name
 IsCommand (receive mode guard name) = IsName name
 
--- the words are those of an accepted command
+-- the words are some of an accepted command
 pub record Spells (words : List Word) (c : Command) : Type 0 where
   pub command : IsCommand c
-  pub spelled : words ≡ words_of c
+  pub spelled : SpellCommand c words
 
 -- some accepted command's words begin with these
 abbrev pub CanGoOn : List Word → Type 0

@@ -1,12 +1,16 @@
 -- How words are read: the parts of a text, and the words that are left.
-use Rattle.std.specs.Prelude.{◌≡◌, ◌≢◌, ℕ, ◌+◌, EachIndex, slice_index, Option, Some, None, option_map, List, [], ◌∷◌, ◌++◌, length, take, codes}
+use Rattle.std.specs.Prelude.{◌≡◌, ◌≢◌, ℕ, ◌+◌, ◌<◌, ◌≤◌, Bool, true, false, EachIndex, slice_index, Option, Some, None, option_map, List, [], ◌∷◌, ◌++◌, length, take, codes}
 use Rattle.std.specs.Borrow.{Bor}
 use Rattle.isdbt_base.specs.declared.kinds.Mode.{Mode}
 use Rattle.isdbt_base.specs.LayerParameters.{LayerParameters}
-use Rattle.isdbt_base.specs.Parameters.{HasSegmentsIfUsed, HasNoGap}
+use Rattle.isdbt_base.specs.declared.kinds.Guard.{Guard}
+use Rattle.isdbt_base.specs.Parameters.{Parameters, HasSegmentsIfUsed, HasNoGap, IsAccepted}
+use Rattle.isdbt_base.specs.Plans.{Transmission, Switch, Schedule, SameLayers, IsPlan, KeepsMode}
+use Rattle.isdbt_base.specs.Epochs.{last_start, last_sent}
+use Rattle.isdbt_base.specs.Switching.{with_switch}
 use Rattle.isdbt_cli.specs.declared.command.Command.{Command as Parsed}
 use Rattle.isdbt_cli.specs.declared.command.Command.TheVariants.{Remux, Code, Receive}
-use Rattle.isdbt_cli.specs.CommandLines.{Word, other_layer_text, Command, remux, code, receive, Spells}
+use Rattle.isdbt_cli.specs.CommandLines.{Word, mode_word, setting_word, frame_word, told_words, IsIn, SpellPlan, other_layer_text, Command, remux, code, receive, Spells}
 
 -- ---- the parts of a text
 
@@ -75,3 +79,88 @@ command_of (Receive mode guard name) = receive mode guard name.now
 abbrev pub named : Word → Option Word → List Word
 named seat None = []
 named seat (Some name) = (seat ++ name) ∷ []
+
+-- ---- plans
+
+-- words begin with this word
+abbrev pub StartsWith : Word → List Word → Type 0
+StartsWith word words = take 1 words ≡ word ∷ []
+
+-- where the plan must be steady, this is in that mode and with that guard interval
+abbrev pub StaysIf : Bool → Mode → Guard → Transmission → Type 0
+StaysIf steady mode guard t = steady ≡ true → IsIn mode guard t
+
+-- the words of a mode and a guard interval were read, or none: then those before stay, and no mode that may follow is next
+pub record ReadsMode (steady : Bool) (mode : Mode) (guard : Guard) (m : Mode) (g : Guard) (old new : Unread) : Type 0 where
+  pub told : Bool
+  pub reads : Reads (told_words told m g) old new
+  pub kept : told ≡ false → (m ≡ mode) × (g ≡ guard)
+  pub next : told ≡ false → (n : Mode) → (steady ≡ true → n ≡ mode) → StartsWith (mode_word n) new.words → ⊥
+  pub same : steady ≡ true → (m ≡ mode) × (g ≡ guard)
+
+-- what stands behind the frame of a switch
+pub record Change : Type 0 where
+  pub told : Bool
+  pub after : Transmission
+
+abbrev pub change_words : Change → List Word
+change_words c = told_words c.told c.after.mode c.after.guard ++ setting_word c.after.mode c.after.setting ∷ []
+
+-- this may stand there, with the layers of this setting, behind that mode and guard interval
+pub record IsChange (steady : Bool) (first : Parameters) (mode : Mode) (guard : Guard) (c : Change) : Type 0 where
+  pub accepted : IsAccepted c.after.setting
+  pub layers : SameLayers first c.after.setting
+  pub kept : c.told ≡ false → IsIn mode guard c.after
+  pub stays : StaysIf steady mode guard c.after
+
+-- a frame that may follow a frame
+abbrev pub IsLater : ℕ → ℕ → Type 0
+IsLater last frame = (last < frame) × (frame ≤ 16777215)
+
+-- one more switch was read
+pub record AddsSwitch (steady : Bool) (p q : Schedule) (old new : Unread) : Type 0 where
+  pub frame : ℕ
+  pub change : Change
+  pub later : IsLater (last_start p) frame
+  pub valid : IsChange steady p.first.setting (last_sent p).mode (last_sent p).guard change
+  pub reads : Reads (frame_word frame ∷ change_words change) old new
+  pub is : q ≡ with_switch p (record { frame = frame; after = change.after })
+
+-- nothing was read, and the next word is no frame that may follow
+pub record EndsPlan (p q : Schedule) (old new : Unread) : Type 0 where
+  pub kept : q ≡ p
+  pub stays : new ≡ old
+  pub next : (frame : ℕ) → IsLater (last_start p) frame → StartsWith (frame_word frame) old.words → ⊥
+
+abbrev pub ReadsSwitch : Bool → Bool → Schedule → Schedule → Unread → Unread → Type 0
+ReadsSwitch true steady = AddsSwitch steady
+ReadsSwitch false steady = EndsPlan
+
+-- a frame that may follow was read, and behind it the words get stuck
+pub record IsStuckInSwitch (steady : Bool) (p : Schedule) (unread : Unread) (place : ℕ) : Type 0 where
+  pub frame : ℕ
+  pub behind : Unread
+  pub later : IsLater (last_start p) frame
+  pub reads : Reads (frame_word frame ∷ []) unread behind
+  pub stuck : IsStuck (BeginsWith (IsChange steady p.first.setting (last_sent p).mode (last_sent p).guard) change_words) behind place
+
+-- these words spell an accepted plan, which is steady where it must be
+pub record SpellsPlan (steady : Bool) (p : Schedule) (words : List Word) : Type 0 where
+  pub plan : IsPlan p
+  pub keeps : steady ≡ true → KeepsMode p.first p.switches
+  pub spelled : SpellPlan p words
+
+-- the words of such a plan were read
+pub record ReadsPlan (steady : Bool) (p : Schedule) (old new : Unread) : Type 0 where
+  pub read : List Word
+  pub spells : SpellsPlan steady p read
+  pub reads : Reads read old new
+
+-- the next word is no frame at which the plan takes one more switch
+abbrev pub HasNoFrame : Schedule → Unread → Type 0
+HasNoFrame p unread = (w : Switch) → IsPlan (with_switch p w) → StartsWith (frame_word w.frame) unread.words → ⊥
+
+-- the first word of the commands with a plan: with any plan, and with a steady one
+abbrev pub planned : Bool → Word
+planned false = codes "remux"
+planned true = codes "code"

@@ -1,7 +1,8 @@
 //! A cursor over words.
 
-ghost use Rattle.std.specs.Prelude.{◌≡◌, ◌≢◌, [], ◌∷◌, map, string_bytes, IfOk, IfErr, OnOk};
-ghost use Rattle.isdbt_cli.specs.Parsing.{Reads};
+ghost use Rattle.std.specs.Prelude.{◌≡◌, ◌≢◌, [], ◌∷◌, None, IfSome, map, string_bytes, IfOk, IfErr, OnOk};
+ghost use Rattle.isdbt_cli.specs.CommandLines.{Word};
+ghost use Rattle.isdbt_cli.specs.Parsing.{Reads, StartsWith};
 
 use std::marker::Model;
 
@@ -36,6 +37,25 @@ impl<'a> Cursor<'a> {
         ensures { result ≡ self.now.place }
     {
         self.place
+    }
+
+    /// The next word, if one is left.
+    pub fn peek(&self) -> Option<&'a str>
+        ensures some { IfSome result (λ word. StartsWith word.now self.now.words) }
+        ensures none { result ≡ None → self.now.words ≡ [] }
+    {
+        let first = self.words.first()?;
+        Some(first.as_str())
+    }
+
+    /// Goes past the next word, if one is left.
+    pub fn skip(&mut self)
+        ensures { (word : Word) → StartsWith word self.old.words → Reads (word ∷ []) self.old self.new }
+    {
+        if let Some((_, rest)) = self.words.split_first() {
+            self.words = rest;
+            self.place += 1;
+        }
     }
 
     /// Takes the next word, or refuses with its place where none is left.

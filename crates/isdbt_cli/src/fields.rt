@@ -9,8 +9,12 @@ ghost use Rattle.isdbt_base.specs.declared.kinds.Modulation.{Modulation as SomeM
 ghost use Rattle.isdbt_base.specs.declared.kinds.Rate.{Rate as SomeRate};
 ghost use Rattle.isdbt_base.specs.declared.kinds.DepthCode.{DepthCode as SomeDepth};
 ghost use Rattle.isdbt_cli.specs.CommandLines.{mode_word, guard_word, modulation_text, rate_text, depth_text};
+ghost use Rattle.isdbt_cli.specs.Parsing.{IsLater};
 
 use isdbt_base::{DepthCode, Guard, Mode, Modulation, Rate};
+
+/// The last frame of all.
+pub const LAST_FRAME: u32 = 16_777_215;
 
 /// The transmission mode of a word.
 pub fn mode_of(word: &str) -> Option<Mode>
@@ -117,5 +121,20 @@ pub fn depth_of(mode: Mode, text: &str) -> Option<DepthCode>
             "4" => Some(DepthCode::D3),
             _ => None,
         },
+    }
+}
+
+/// The frame that a text spells, 1 to 16,777,215, in decimal without sign or leading zero.
+pub fn frame_of(text: &str) -> Option<u32>
+    ensures spelled { IfSome result (λ n. IsLater 0 n × (text.now ≡ decimal n)) }
+    ensures found { (n : ℕ) → IsLater 0 n → text.now ≡ decimal n → result ≡ Some n }
+{
+    let first = *text.as_bytes().first()?;
+    if first == b'0' || first == b'+' {
+        return None;
+    }
+    match text.parse::<u32>() {
+        Ok(frame) if frame <= LAST_FRAME => Some(frame),
+        _ => None,
     }
 }

@@ -3,16 +3,20 @@
 //! Where the words do not follow a rule, it answers the place of the fault: the least place such that nothing that
 //! follows the rule begins with the words up to it.
 
-ghost use Rattle.std.specs.Prelude.{◌≡◌, ◌++◌, ◌∷◌, [], is_some, IfOk, IfErr, MatchResult, codes, map, string_bytes, option_map};
-ghost use Rattle.isdbt_base.specs.Parameters.{IsAccepted};
-ghost use Rattle.isdbt_cli.specs.CommandLines.{mode_word, guard_word, setting_word, plan_words, IsSteady, IsName, IsNameIfGiven, Spells, IsFaultAt};
-ghost use Rattle.isdbt_cli.specs.Parsing.{Reads, BeginsWith, IsAny, IsStuck, Follows, command_of, named};
+ghost use Rattle.std.specs.Prelude.{◌≡◌, ℕ, ◌<◌, ◌++◌, ◌∷◌, [], length, true, None, is_some, IfSome, IfOk, IfErr, MatchResult, codes, map, string_bytes, option_map};
+ghost use Rattle.isdbt_base.specs.Parameters.{Parameters, IsAccepted};
+ghost use Rattle.isdbt_base.specs.declared.kinds.Mode.{Mode as SomeMode};
+ghost use Rattle.isdbt_cli.specs.CommandLines.{mode_word, guard_word, setting_word, frame_word, transmission_words, IsName, IsNameIfGiven, Spells, IsFaultAt};
+ghost use Rattle.isdbt_cli.specs.Parsing.{Reads, BeginsWith, IsAny, IsStuck, Follows, command_of, named, StartsWith, IsLater, ReadsMode, IsChange, change_words, ReadsSwitch, IsStuckInSwitch, ReadsPlan, HasNoFrame, planned};
 
 use crate::command::Command;
 use crate::cursor::Cursor;
-use crate::fields::{guard_of, mode_of};
+use crate::fields::{LAST_FRAME, frame_of, guard_of, mode_of};
 use crate::setting_word::setting_of;
-use isdbt_base::{Guard, Layer, Mode, Plan, Setting};
+use isdbt_base::{At, Guard, Layer, Mode, Plan, Setting};
+
+/// The most switches of a plan.
+const MOST_SWITCHES: u32 = 7;
 
 /// The command that the words of a whole line spell, or the place of their fault.
 pub fn any_command(list: &[String]) -> Result<Command<'_>, u64>
@@ -33,7 +37,7 @@ fn remux<'a>(words: &mut Cursor<'a>) -> Result<Command<'a>, u64>
     ensures { MatchResult result (λ c. Spells (codes "remux" ∷ words.old.words) (command_of c))
         (λ place. IsStuck (Follows (codes "remux")) words.old place) }
 {
-    let plan = plan(words)?;
+    let plan = plan(words, false)?;
     let setting = plan.at(0).setting;
     let a = name(words, "A=")?;
     let b = name_if(words, "B=", setting.layer(Layer::B).is_some())?;
@@ -42,12 +46,12 @@ fn remux<'a>(words: &mut Cursor<'a>) -> Result<Command<'a>, u64>
     Ok(Command::Remux { plan, a, b, c })
 }
 
-/// The words behind `code`: a plan and the name of its input.
+/// The words behind `code`: a plan whose switches keep the mode and the guard interval, and the name of its input.
 fn code<'a>(words: &mut Cursor<'a>) -> Result<Command<'a>, u64>
     ensures { MatchResult result (λ c. Spells (codes "code" ∷ words.old.words) (command_of c))
         (λ place. IsStuck (Follows (codes "code")) words.old place) }
 {
-    let plan = plan(words)?;
+    let plan = plan(words, true)?;
     let name = name(words, "IN=")?;
     words.end()?;
     Ok(Command::Code { plan, name })
@@ -69,17 +73,100 @@ fn receive<'a>(words: &mut Cursor<'a>) -> Result<Command<'a>, u64>
     })
 }
 
-/// A plan with no switch.
-fn plan(words: &mut Cursor<'_>) -> Result<Plan, u64>
-    ensures steady { IfOk result IsSteady }
-    ensures ok { IfOk result (λ p. Reads (plan_words p) words.old words.new) }
-    ensures err { IfErr result (λ place. IsStuck (BeginsWith IsSteady plan_words) words.old place) }
+/// A plan, with switches as long as the next word is a frame at which it takes one; another word ends it. A steady plan's
+/// switches keep the mode and the guard interval.
+fn plan(words: &mut Cursor<'_>, steady: bool) -> Result<Plan, u64>
+    ensures ok { IfOk result (λ p. ReadsPlan steady p words.old words.new) }
+    ensures end { IfOk result (λ p. HasNoFrame p words.new) }
+    ensures err { IfErr result (λ place. IsStuck (Follows (planned steady)) words.old place) }
+{
+    let mut plan = opening(words)?;
+    for _ in 0..MOST_SWITCHES {
+        if !switch(words, steady, &mut plan)? {
+            return Ok(plan);
+        }
+    }
+    Ok(plan)
+}
+
+/// What frame 0 sends, as a plan with no switch.
+fn opening(words: &mut Cursor<'_>) -> Result<Plan, u64>
+    ensures plain { IfOk result (λ p. p.switches ≡ []) }
+    ensures accepted { IfOk result (λ p. IsAccepted p.first.setting) }
+    ensures ok { IfOk result (λ p. Reads (transmission_words p.first) words.old words.new) }
+    ensures err { IfErr result (λ place. IsStuck (BeginsWith (λ t. IsAccepted t.setting) transmission_words) words.old place) }
 {
     let mode = mode(words)?;
     let guard = guard(words)?;
     let setting = setting(words, mode)?;
     setting.acceptance_law();
     Ok(Plan::new(mode, guard, setting))
+}
+
+/// One more switch of a plan, if the next word is a frame at which it may come. Answers whether it is.
+fn switch(words: &mut Cursor<'_>, steady: bool, plan: &mut Plan) -> Result<bool, u64>
+    requires { length plan.old.switches < 7 }
+    ensures ok { IfOk result (λ more. ReadsSwitch more steady plan.old plan.new words.old words.new) }
+    ensures err { IfErr result (λ place. IsStuckInSwitch steady plan.old words.old place) }
+{
+    plan.acceptance_law();
+    let before = plan.at(LAST_FRAME);
+    let Some(frame) = next_frame(words, before.start) else {
+        return Ok(false);
+    };
+    let (mode, guard) = mode_and_guard(words, before, steady)?;
+    let place = words.place();
+    let setting = setting(words, mode)?;
+    setting.acceptance_law();
+    match plan.add_switch_at(frame, mode, guard, setting) {
+        Ok(()) => Ok(true),
+        Err(_) => Err(place),
+    }
+}
+
+/// Takes the next word if it is a frame after this one.
+fn next_frame(words: &mut Cursor<'_>, last: u32) -> Option<u32>
+    ensures some { IfSome result (λ frame. IsLater last frame × Reads (frame_word frame ∷ []) words.old words.new) }
+    ensures kept { result ≡ None → words.new ≡ words.old }
+    ensures none { (frame : ℕ) → result ≡ None → IsLater last frame → StartsWith (frame_word frame) words.old.words → ⊥ }
+{
+    let text = words.peek()?.strip_prefix("@")?;
+    let frame = frame_of(text)?;
+    if frame <= last {
+        return None;
+    }
+    words.skip();
+    Some(frame)
+}
+
+/// The mode and the guard interval of a switch, or those before it where they are not told.
+fn mode_and_guard(words: &mut Cursor<'_>, before: At, steady: bool) -> Result<(Mode, Guard), u64>
+    ensures ok { IfOk result (λ x. ReadsMode steady before.mode before.guard x.0 x.1 words.old words.new) }
+    ensures err { (first : Parameters) → IsAccepted first → IfErr result (λ place. IsStuck (BeginsWith (IsChange steady first before.mode before.guard) change_words) words.old place) }
+{
+    let Some(mode) = next_mode(words, before.mode, steady) else {
+        return Ok((before.mode, before.guard));
+    };
+    let place = words.place();
+    let guard = guard(words)?;
+    if steady && guard != before.guard {
+        return Err(place);
+    }
+    Ok((mode, guard))
+}
+
+/// Takes the next word if it is a mode, and in a steady plan the one before.
+fn next_mode(words: &mut Cursor<'_>, before: Mode, steady: bool) -> Option<Mode>
+    ensures some { IfSome result (λ mode. (steady ≡ true → mode ≡ before) × Reads (mode_word mode ∷ []) words.old words.new) }
+    ensures kept { result ≡ None → words.new ≡ words.old }
+    ensures none { (mode : SomeMode) → result ≡ None → (steady ≡ true → mode ≡ before) → StartsWith (mode_word mode) words.old.words → ⊥ }
+{
+    let mode = mode_of(words.peek()?)?;
+    if steady && mode != before {
+        return None;
+    }
+    words.skip();
+    Some(mode)
 }
 
 /// The transmission mode.

@@ -1,9 +1,12 @@
 //! The program `isdbt`: commands of the ISDB-T transmission chain at the shell.
 //!
-//! - `remux MODE GUARD SETTING A=NAME [B=NAME [C=NAME]]` makes broadcast packets of the layers' transport packets.
-//! - `code MODE GUARD SETTING IN=NAME` makes cells of broadcast packets.
+//! - `remux MODE GUARD PLAN A=NAME [B=NAME [C=NAME]]` makes broadcast packets of the layers' transport packets.
+//! - `code MODE GUARD PLAN IN=NAME` makes cells of broadcast packets.
 //! - `receive MODE GUARD IN=NAME` makes broadcast packets of cells, each layer's packets put off by its delay. The setting
 //!   it reads from the TMCC words of the frames.
+//!
+//! A PLAN is `SETTING {@FRAME [MODE GUARD] SETTING}`: what frame 0 sends, and at most seven switches, each from a frame on. A
+//! switch that names no mode and guard interval keeps those before it, and for `code` each switch keeps them.
 //!
 //! It writes its product to standard output and ends with the status of its [`fault::Outcome`].
 #![tactic(auto)]
@@ -30,6 +33,10 @@ mod refused_words_tests;
 mod remux_tests;
 mod run;
 mod setting_word;
+#[cfg(test)]
+mod switch_tests;
+#[cfg(test)]
+mod switch_words_tests;
 #[cfg(test)]
 mod testing;
 #[cfg(test)]

@@ -69,6 +69,17 @@ pub fn words_of(alloc: Global, list: &[&str]) -> Result<Words, Fail> {
     Ok(words)
 }
 
+/// The words of texts, which are cut at blanks.
+pub fn words_in(alloc: Global, texts: &[&str]) -> Result<Words, Fail> {
+    let mut words = Words::new(alloc);
+    for text in texts {
+        for word in text.split(' ') {
+            words.push(word)?;
+        }
+    }
+    Ok(words)
+}
+
 /// Packets that begin with the sync byte, are numbered by the next two and filled with a mark, cut or drawn out to `len`
 /// bytes.
 pub fn marked_packets(alloc: Global, len: usize, mark: u8) -> Result<Vec<u8>, Fail> {

@@ -1,7 +1,7 @@
 //! Command lines that are commands.
 
 use crate::command::Command;
-use crate::testing::words_of;
+use crate::testing::{words_in, words_of};
 use isdbt_base::{DepthCode, Guard, LayerSetting, Mode, Modulation, Plan, Rate, Setting};
 use std::alloc::Global;
 use std::process::Abort;
@@ -239,6 +239,133 @@ fn check_receive(rt: &impl Abort, alloc: Global, input: (&str, &str)) -> Result<
 fn receiving(rt: HostRuntime) -> Result<(), Fail> {
     for input in INPUTS {
         check_receive(&rt, rt.alloc(), input)?;
+    }
+    Ok(())
+}
+
+/// What a line's plan has at a frame: the start of its epoch, its mode, its guard interval and whether partial reception is set.
+struct SwitchedRow {
+    line: &'static str,
+    frame: u32,
+    start: u32,
+    mode: Mode,
+    guard: Guard,
+    is_partial: bool,
+}
+
+/// One layer in mode 1 that is switched once, at a frame before.
+const BEFORE: SwitchedRow = SwitchedRow {
+    line: "remux 1 1/4 A:13:qpsk:1/2:0 @20 A:13:qpsk:3/4:4 A=a",
+    frame: 19,
+    start: 0,
+    mode: Mode::M1,
+    guard: Guard::G4,
+    is_partial: false,
+};
+
+/// Lines with switches.
+const SWITCHED: [SwitchedRow; 13] = [
+    BEFORE,
+    SwitchedRow {
+        frame: 20,
+        start: 20,
+        ..BEFORE
+    },
+    SwitchedRow {
+        line: "remux 1 1/4 A:13:qpsk:1/2:0 @1 1 1/4 A:13:qpsk:1/2:0 A=a",
+        frame: 1,
+        start: 1,
+        ..BEFORE
+    },
+    SwitchedRow {
+        line: "remux 1 1/4 A:13:qpsk:1/2:16 @4 2 1/8 A:13:qpsk:1/2:2 A=a",
+        frame: 3,
+        ..BEFORE
+    },
+    SwitchedRow {
+        line: "remux 1 1/4 A:13:qpsk:1/2:16 @4 2 1/8 A:13:qpsk:1/2:2 @9 A:13:qpsk:1/2:8 A=a",
+        frame: 9,
+        start: 9,
+        mode: Mode::M2,
+        guard: Guard::G8,
+        ..BEFORE
+    },
+    SwitchedRow {
+        line: "remux 1 1/4 A:13:qpsk:1/2:0 @4 1 1/32 A:13:qpsk:1/2:16 A=a",
+        frame: 4,
+        start: 4,
+        guard: Guard::G32,
+        ..BEFORE
+    },
+    SwitchedRow {
+        line: "remux 1 1/4 A:13:qpsk:1/2:0 @4 3 1/4 A:13:qpsk:1/2:1 @5 1 1/4 A:13:qpsk:1/2:16 A=a",
+        frame: 16_777_215,
+        start: 5,
+        ..BEFORE
+    },
+    SwitchedRow {
+        line: "remux 1 1/4 A:13:qpsk:1/2:0 @16777214 A:13:qpsk:1/2:0 @16777215 3 1/16 A:13:qpsk:1/2:4 A=a",
+        frame: 16_777_215,
+        start: 16_777_215,
+        mode: Mode::M3,
+        guard: Guard::G16,
+        ..BEFORE
+    },
+    SwitchedRow {
+        line: "remux 1 1/4 A:1:qpsk:1/2:0,B:12:qpsk:1/2:0 @9 A:1:qpsk:1/2:0:partial,B:12:qpsk:1/2:0 A=a B=b",
+        frame: 9,
+        start: 9,
+        is_partial: true,
+        ..BEFORE
+    },
+    SwitchedRow {
+        line: "remux 1 1/4 A:1:qpsk:1/2:0:partial,B:12:qpsk:1/2:0 @9 A:3:qpsk:1/2:0,B:10:qpsk:1/2:0 A=a B=b",
+        frame: 9,
+        start: 9,
+        ..BEFORE
+    },
+    SwitchedRow {
+        line: "code 2 1/8 A:13:qpsk:1/2:0 @20 2 1/8 A:13:qpsk:1/2:8 @30 A:13:qpsk:1/2:2 IN=x",
+        frame: 30,
+        start: 30,
+        mode: Mode::M2,
+        guard: Guard::G8,
+        ..BEFORE
+    },
+    SwitchedRow {
+        line: "code 1 1/4 A:13:qpsk:1/2:0 @20 A:13:qpsk:3/4:4 IN=x",
+        frame: 25,
+        start: 20,
+        ..BEFORE
+    },
+    SwitchedRow {
+        line: "remux 1 1/4 A:13:qpsk:1/2:0 @1 A:13:qpsk:1/2:0 @2 A:13:qpsk:1/2:0 @3 A:13:qpsk:1/2:0 @4 A:13:qpsk:1/2:0 @5 A:13:qpsk:1/2:0 @6 A:13:qpsk:1/2:0 @7 2 1/4 A:13:qpsk:1/2:0 A=a",
+        frame: 8,
+        start: 7,
+        mode: Mode::M2,
+        ..BEFORE
+    },
+];
+
+/// Checks what a plan has at a row's frame.
+fn check_switched(rt: &impl Abort, plan: &Plan, row: &SwitchedRow) {
+    let at = plan.at(row.frame);
+    assert_eq!(rt; at.start, row.start);
+    assert_eq!(rt; at.mode, row.mode);
+    assert_eq!(rt; at.guard, row.guard);
+    assert_eq!(rt; at.setting.partial(), row.is_partial);
+}
+
+#[test]
+fn switched_plans(rt: HostRuntime) -> Result<(), Fail> {
+    for row in &SWITCHED {
+        let words = words_in(rt.alloc(), &[row.line])?;
+        match words.command()? {
+            Command::Remux { plan, .. } | Command::Code { plan, .. } => check_switched(
+                &rt, &plan, row,
+            ),
+            Command::Receive { .. } => return Err(Fail::from("the words are another command")),
+        }
     }
     Ok(())
 }

@@ -1,27 +1,61 @@
-use Rattle.std.proofs.Common.{[], ◌∷◌, ◌++◌}
+use Rattle.std.proofs.Common.{◌≡◌, true, false, List, [], length, ap, arith, rules}
 use Rattle.std.proofs.lemmas.Result.{err_from_is_err_and}
 use Rattle.isdbt_base.specs.Parameters.{IsAccepted}
-use Rattle.isdbt_cli.specs.CommandLines.{mode_word, guard_word, setting_word}
-use Rattle.isdbt_cli.specs.Parsing.{IsAny}
-use Rattle.isdbt_cli.proofs.Stuck.{stuck_piece, reads_none, reads_both}
-use Rattle.isdbt_cli.proofs.Spelling.{Sent, sent_mode, mode_sent, sent_guard, guard_sent, sent_setting, setting_sent}
+use Rattle.isdbt_base.specs.Plans.{Switch}
+use Rattle.isdbt_cli.specs.CommandLines.{transmission_words}
+use Rattle.isdbt_cli.specs.Parsing.{Follows, planned}
+use Rattle.isdbt_cli.proofs.Stuck.{stuck_piece, reads_none}
+use Rattle.isdbt_cli.proofs.PlanLines.{opened, sent_follows, follows_sent, reads_more, stays_read, count_more, taken, not_taken, stuck_switch, ended, full}
 use Rattle.isdbt_cli.proofs.grammar.plan.Goals as goal
 
-pub returns-in_err-mode-clause-err : goal.returns-in_err-mode-clause-err
-returns-in_err-mode-clause-err c =
+pub returns-in_err-plan-clause-err : goal.returns-in_err-plan-clause-err
+returns-in_err-plan-clause-err c =
     let p = err_from_is_err_and c.from_residual.result c.from_residual.ensures.1 in
-    rw (p.1, p.2) (stuck_piece IsAny (λ m. mode_word m ∷ []) Sent [] c.args.words.now c.args.words.now c.in_err-mode.field-0.0 (reads_none c.args.words.now) sent_mode mode_sent c.in_err-mode.ensures.err)
+    rw (p.1, p.2) (stuck_piece (λ t. IsAccepted t.setting) transmission_words (Follows (planned c.args.steady)) [] c.args.words.now c.args.words.now c.in_err-plan.field-0.0
+    (reads_none c.args.words.now) (sent_follows c.args.steady) (follows_sent c.args.steady) c.in_err-plan.ensures.err)
 
-pub returns-in_err-guard-clause-err : goal.returns-in_err-guard-clause-err
-returns-in_err-guard-clause-err c =
-    let p = err_from_is_err_and c.from_residual-in_err-guard.result c.from_residual-in_err-guard.ensures.1 in
-    let m = c.in_ok-mode.mode in
-    rw (p.1, p.2) (stuck_piece IsAny (λ g. guard_word g ∷ []) Sent (mode_word m ∷ []) c.args.words.now c.mode.new.words c.in_err-guard.field-0.0 c.in_ok-mode.ensures.ok (sent_guard m) (guard_sent m) c.in_err-guard.ensures.err)
+pub loop-init : goal.loop-init
+loop-init c = (
+  opened c.args.steady c.in_ok-plan.plan c.args.words.now c.opening.new.words c.in_ok-plan.ensures.plain c.in_ok-plan.ensures.accepted c.in_ok-plan.ensures.ok,
+  ap
+      (λ (l : List Switch). length l) c.in_ok-plan.ensures.plain,
+)
 
-pub returns-in_err-setting-clause-err : goal.returns-in_err-setting-clause-err
-returns-in_err-setting-clause-err c =
-    let p = err_from_is_err_and c.from_residual-in_err-setting.result c.from_residual-in_err-setting.ensures.1 in
-    let m = c.in_ok-mode.mode in
-    let g = c.in_ok-guard.guard in
-    rw (p.1, p.2) (stuck_piece IsAccepted (λ s. setting_word m s ∷ []) Sent (mode_word m ∷ [] ++ guard_word g ∷ []) c.args.words.now c.guard.new.words c.in_err-setting.field-0.0
-    (reads_both (mode_word m ∷ []) (guard_word g ∷ []) c.args.words.now c.mode.new.words c.guard.new.words c.in_ok-mode.ensures.ok c.in_ok-guard.ensures.ok) (sent_setting m g) (setting_sent m g) c.in_err-setting.ensures.err)
+pub switch-requires : goal.switch-requires
+switch-requires c = (let count = c.loop.invariant.1 in let less = c.loop-test.true in omega (arith, count, less))
+
+pub returns-in_err-switch-clause-err : goal.returns-in_err-switch-clause-err
+returns-in_err-switch-clause-err c =
+    let p = err_from_is_err_and c.from_residual-in_err-switch.result c.from_residual-in_err-switch.ensures.1 in
+    let count = c.loop.invariant.1 in
+    let less = c.loop-test.true in
+    rw (p.1, p.2) (stuck_switch c.args.steady c.loop.plan c.args.words.now c.loop.words c.in_err-switch.field-0.0 c.loop.invariant.0 (omega (arith, count, less)) c.in_err-switch.ensures.err)
+
+pub returns-then-not-branch-clause-ok : goal.returns-then-not-branch-clause-ok
+returns-then-not-branch-clause-ok c =
+    let none : c.in_ok-switch.field-0 ≡ false = search rules in
+    stays_read c.args.steady c.loop.plan c.switch.new.plan c.args.words.now c.loop.words c.switch.new.words c.loop.invariant.0
+    (not_taken c.in_ok-switch.field-0 c.args.steady c.loop.plan c.switch.new.plan c.loop.words c.switch.new.words none c.in_ok-switch.ensures.ok)
+
+pub returns-then-not-branch-clause-end : goal.returns-then-not-branch-clause-end
+returns-then-not-branch-clause-end c =
+    let none : c.in_ok-switch.field-0 ≡ false = search rules in
+    ended c.loop.plan c.switch.new.plan c.loop.words c.switch.new.words
+    (not_taken c.in_ok-switch.field-0 c.args.steady c.loop.plan c.switch.new.plan c.loop.words c.switch.new.words none c.in_ok-switch.ensures.ok)
+
+pub loop-preserved : goal.loop-preserved
+loop-preserved c =
+    let some : c.in_ok-switch.field-0 ≡ true = search rules in
+    let count = c.loop.invariant.1 in
+    let less = c.loop-test.true in
+    let adds = taken c.in_ok-switch.field-0 c.args.steady c.loop.plan c.switch.new.plan c.loop.words c.switch.new.words some c.in_ok-switch.ensures.ok in (
+      reads_more c.args.steady c.loop.plan c.switch.new.plan c.args.words.now c.loop.words c.switch.new.words c.loop.invariant.0
+          (omega (arith, count, less)) adds,
+      count_more c.args.steady c.loop.plan c.switch.new.plan c.loop.words c.switch.new.words c.loop.counter count adds,
+    )
+
+pub returns-clause-ok : goal.returns-clause-ok
+returns-clause-ok c = c.loop.invariant.0
+
+pub returns-clause-end : goal.returns-clause-end
+returns-clause-end c = (let count = c.loop.invariant.1 in let most = c.loop.auto.counter-end in let end = c.loop-test.false in full c.loop.plan c.loop.words (omega (arith, count, most, end)))

@@ -2,7 +2,7 @@ use Rattle.std.proofs.Common.{◌≡◌, [], ◌∷◌, Some}
 use Rattle.std.proofs.lemmas.Result.{err_from_is_err_and}
 use Rattle.isdbt_base.specs.Parameters.{IsAccepted}
 use Rattle.isdbt_cli.specs.CommandLines.{setting_word}
-use Rattle.isdbt_cli.proofs.Spelling.{some_setting, some_accepted}
+use Rattle.isdbt_cli.proofs.Transmissions.{some_setting, some_accepted}
 use Rattle.isdbt_cli.specs.Parsing.{BeginsWith, IsStuck}
 use Rattle.isdbt_cli.proofs.Stuck.{missing, wrong, refused}
 use Rattle.isdbt_cli.proofs.grammar.setting.Goals as goal
@@ -15,5 +15,6 @@ returns-in_err-word-clause-err c =
 pub returns-clause-err : goal.returns-clause-err
 returns-clause-err c =
     refused (IsStuck (BeginsWith IsAccepted (λ x. (setting_word c.args.mode) x ∷ [])) c.args.words.now) c.ok_or.result c.setting_of.result c.place-place.result c.ok_or.ensures.value
-    (λ none. wrong IsAccepted (setting_word c.args.mode) some_setting some_accepted c.args.words.now c.word.new.self c.place-place.result c.in_ok-word.word.now c.place-place.ensures c.in_ok-word.ensures.ok
+    (λ none. wrong IsAccepted (setting_word c.args.mode) some_setting some_accepted c.args.words.now c.word.new.self c.place-place.result c.in_ok-word.word.now
+    c.place-place.ensures c.in_ok-word.ensures.ok
     (λ x valid e. (let found : c.setting_of.result ≡ Some x = c.setting_of.ensures.found x valid e in cc)))

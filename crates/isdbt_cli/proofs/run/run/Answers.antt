@@ -39,15 +39,15 @@ returns-in-Ok-clause-good_packets g c = λ p a b n input spelled hold none fine.
 pub returns-in-Ok-clause-code_of_remux : goal.returns-in-Ok-clause-code_of_remux
 returns-in-Ok-clause-code_of_remux g c = λ p name input count spelled hold fine bytes few none.
     let same = one_command c.args.words.now (command_of c.in-Ok.command) (code p name) c.in-Ok.ensures spelled in
-    let plan = spelled.command.plan in
-    let all = chain p p.first.mode p.first.guard input count plan.accepted (sends_alike p count plan.no_switch) fine bytes few in
+    let r = spelled.command in
+    let all = chain p p.first.mode p.first.guard input count r.plan (sends_alike p count r.keeps) fine bytes few in
     coded (g.H.Shelf.holds c.args.shelf.now) _ _ (g.H.Shelf.left c.run_command-outcome.new.shelf) _ _ _ _ c.run_command-outcome.result p name (written_stream p input count) count (product (frame_cells p (multiplexed p input)) count) (same_answer (command_of c.in-Ok.command) (code p name) _ _ _ _ _ same c.run_command-outcome.ensures.answer (written_stream p input count) hold) (same_cause (command_of c.in-Ok.command) (code p name) _ _ _ _ _ same c.run_command-outcome.ensures.cause) none all.coded all.cells
 
 pub returns-in-Ok-clause-code_near : goal.returns-in-Ok-clause-code_near
 returns-in-Ok-clause-code_near g c = λ p name input m spelled hold bytes done.
     let same = one_command c.args.words.now (command_of c.in-Ok.command) (code p name) c.in-Ok.ensures spelled in
-    let plan = spelled.command.plan in
-    wrote_near p input m _ _ ((g.H.Shelf.left c.run_command-outcome.new.shelf) seats.In) plan.accepted plan.no_switch bytes (coded_done (g.H.Shelf.holds c.args.shelf.now) _ _ (g.H.Shelf.left c.run_command-outcome.new.shelf) (g.H.Shelf.faults c.args.shelf.now) (g.H.Shelf.faults c.args.shelf.now) 0 0 c.run_command-outcome.result p input m (same_answer (command_of c.in-Ok.command) (code p name) _ _ _ _ _ same c.run_command-outcome.ensures.answer input hold) done)
+    let r = spelled.command in
+    wrote_near p input m _ _ ((g.H.Shelf.left c.run_command-outcome.new.shelf) seats.In) r.plan r.keeps bytes (coded_done (g.H.Shelf.holds c.args.shelf.now) _ _ (g.H.Shelf.left c.run_command-outcome.new.shelf) (g.H.Shelf.faults c.args.shelf.now) (g.H.Shelf.faults c.args.shelf.now) 0 0 c.run_command-outcome.result p input m (same_answer (command_of c.in-Ok.command) (code p name) _ _ _ _ _ same c.run_command-outcome.ensures.answer input hold) done)
 
 pub returns-in-Ok-clause-receive_near : goal.returns-in-Ok-clause-receive_near
 returns-in-Ok-clause-receive_near g c = λ p frames count mode guard name stream spelled hold plan packets near few none.
