@@ -7,27 +7,13 @@ use Rattle.isdbt_base.specs.Outcome.{IsOutcome}
 use Rattle.isdbt_base.specs.Plans.{Schedule}
 use Rattle.coder_core.specs.InputFrames.{first_head, packets_before, frame_start}
 use Rattle.coder_core.specs.CodeRefusals.{has_byte_of, refusal_from, code_refusal, there_from, is_there}
-use Rattle.coder_core.proofs.PlainFrames.{packets_before-suc}
-
-packets-rise : (p : Schedule) (f n : ℕ) → packets_before p f ≤ packets_before p (f + n)
-packets-rise p f zero = (let e = ap (packets_before p) (let e' : f ≡ f + 0 = omega arith in e') in omega (arith, e))
-packets-rise p f (suc n) =
-    let more = packets_before-suc p (f + n) in
-    let e = ap (packets_before p) (let e' : suc (f + n) ≡ f + suc n = omega arith in e') in
-    let before = packets-rise p f n in
-    omega (arith, more, e, before)
-
-past : (p : Schedule) (head m f : ℕ) → m ≤ f → frame_start p head m ≤ frame_start p head f
-past p head m f le =
-    let rise = packets-rise p m (f - m) in
-    let e = ap (packets_before p) (let e' : m + (f - m) ≡ f = omega (arith, le) in e') in
-    omega (arith, rise, e)
+use Rattle.coder_core.proofs.FrameStarts.{start-later}
 
 refusal-gone : (p : Schedule) (input : List ℕ) (limit m f : ℕ) (o : Option ℕ) → m ≤ f → there_from p input m o ≡ false → refusal_from p input limit f o ≡ None
 refusal-gone p input limit m f None le gone = refl
 refusal-gone p input limit m f (Some head) le gone =
     let end = ltb-false (frame_start p head m) (length input) gone in
-    let rise = past p head m f le in
+    let rise = start-later p head m f le in
     let none : has_byte_of p input head f ≡ false = le-ltb (frame_start p head f) (length input) (omega (arith, end, rise)) in
     rw none refl
 

@@ -2,47 +2,35 @@
 use Rattle.std.proofs.Common.{◌≡◌, ℕ, ◌+◌, ◌-◌, ◌*◌, ◌≤◌, ◌<◌, min, true, false, List, [], ◌∷◌, ◌++◌, length, take, drop, refl, ap, sym, ◌∙◌, subst, arith, drop-drop, length-drop}
 use Rattle.std.specs.Prelude.{Some, None, Ok, Err, ◌==◌, if◌then◌else◌}
 use Rattle.std.specs.declared.option.Option.{Option}
-use Rattle.std.specs.declared.result.Result.{Result}
 use Rattle.std.proofs.Math.Seq.{take-add}
 use Rattle.std.proofs.lemmas.Bool.{ne_eqb, eq-eqb, lt-ltb, le-ltb}
-use Rattle.std.proofs.lemmas.List.{drop_all, take_all}
-use Rattle.isdbt_base.specs.declared.kinds.Mode.{Mode}
-use Rattle.isdbt_base.specs.Parameters.{Parameters}
+use Rattle.std.proofs.lemmas.List.{drop_all, take_all, take-take}
 use Rattle.isdbt_base.specs.Outcome.{first_some}
 use Rattle.isdbt_base.specs.Plans.{Schedule, at_frame}
+use Rattle.isdbt_base.specs.Epochs.{begins_later}
 use Rattle.edge_io.specs.declared.shelf.Seat.TheVariants as seats
 use Rattle.edge_io.specs.Known.{append_known}
-use Rattle.edge_io.specs.FrameAnswers.{Passed, Wrote, Refused, WriteFailed, ReadFailed, TookAtMost, Took, Stopped, Finished, LoneAnswer}
+use Rattle.edge_io.specs.FrameAnswers.{Passed, Wrote, Refused, WriteFailed, ReadFailed, WantsMemory, TookAtMost, Took, Stopped, Finished}
 use Rattle.edge_io.proofs.FrameAnswers.{wrote-none, wrote-more, wrote_part, passed-none, passed-more, ended-refused, ended-done}
 use Rattle.coder_core.specs.declared.fault.CodeFault.{CodeFault}
-use Rattle.coder_core.specs.declared.fault.CodeFault.TheVariants.{BadSync, Truncated, HeadMisplaced, NoHead, WrongCount, ReadFault, WriteFault, TooLong, NoMemory}
+use Rattle.coder_core.specs.declared.fault.CodeFault.TheVariants.{Truncated, TooLong}
 use Rattle.coder_core.specs.FrameChecks.{refusal}
-use Rattle.coder_core.specs.InputFrames.{first_head, slots_at, packets_before, frame_start, frame_at, packet_in, input_frames}
-use Rattle.coder_core.specs.SentCells.{epoch_frame_cells, plan_word}
+use Rattle.coder_core.specs.InputFrames.{first_head, slots_at, packets_before, frame_start, frame_at}
 use Rattle.coder_core.specs.CodeRefusals.{search_refusal, has_byte_of, truncated, frame_refusal, coded_frame}
 use Rattle.edge_io.specs.Reading.{FilledTo, StoppedBelow}
-use Rattle.coder_core.specs.Coder.{IsFrameOf}
-use Rattle.coder_core.specs.Answers.{IsPlain, Found, code_kind, code_command}
-use Rattle.coder_core.proofs.PlainFrames.{at_frame-plain, plain_slots, slots-plain, packets_before-plain, start-zero, start-more, start-rises, first_some-one, refusal-found, there-found, coded-found}
+use Rattle.coder_core.specs.Answers.{Found, code_command}
+use Rattle.coder_core.specs.FrameSteps.{Progress, Taken}
+use Rattle.coder_core.proofs.FrameStarts.{slots-some, start-zero, start-more, start-later}
+use Rattle.coder_core.proofs.FoundHead.{first_some-one, refusal-found, there-found}
 use Rattle.coder_core.proofs.CodeStarts.{starts-found, starts-within, starts-next}
 
--- so many frames were read, found good and written, and the first bytes of the next stand in the buffer
-pub record Progress (p : Schedule) (input : List ℕ) (limit head f held : ℕ) (frame : List ℕ) (left before now : Option (List ℕ)) : Type 0 where
-  pub found : first_head input ≡ Some head
-  pub searched : search_refusal input ≡ None
-  pub passed : Passed (code_command p input limit).frames f
-  pub written : Wrote (code_command p input limit).frames f before now
-  pub holds : take held frame ≡ take held (drop (frame_start p head f) input)
-  pub within : frame_start p head f + held ≤ length input
-  pub left_is : left ≡ Some (drop (frame_start p head f + held) input)
-
--- those, and so many bytes of the next frame came
+-- so many frames were passed and written, and so many bytes of the next frame came
 pub record Turn (p : Schedule) (input : List ℕ) (limit head f count : ℕ) (frame : List ℕ) (left before now : Option (List ℕ)) : Type 0 where
   pub found : first_head input ≡ Some head
   pub searched : search_refusal input ≡ None
   pub passed : Passed (code_command p input limit).frames f
   pub written : Wrote (code_command p input limit).frames f before now
-  pub count_is : count ≡ min (204 * plain_slots p) (length input - frame_start p head f)
+  pub count_is : count ≡ min (204 * slots_at p f) (length input - frame_start p head f)
   pub reached : frame_start p head f ≤ length input
   pub front : take count frame ≡ take count (drop (frame_start p head f) input)
   pub left_is : left ≡ Some (drop (frame_start p head f + count) input)
@@ -62,9 +50,21 @@ begin p input limit head frame left before f =
       left_is = f.left_is ∙ ap (λ n. Some (drop n input)) (sym past);
     }
 
+-- the bytes that are held stand in the front of the buffer
+pub held-front : (p : Schedule) (input : List ℕ) (limit head f held size : ℕ) (buffer : List ℕ) (left before now : Option (List ℕ)) → held ≤ size → Progress p input limit head f held buffer left before now → Progress p input limit head f held (take size buffer) left before now
+held-front p input limit head f held size buffer left before now fits so_far = record {
+  found = so_far.found;
+  searched = so_far.searched;
+  passed = so_far.passed;
+  written = so_far.written;
+  holds = take-take held size buffer fits ∙ so_far.holds;
+  within = so_far.within;
+  left_is = so_far.left_is;
+}
+
 -- ---- a frame more
 
-pub turn : (p : Schedule) (input : List ℕ) (limit head f held n : ℕ) (old new : List ℕ) (left left' before now : Option (List ℕ)) → length new ≡ 204 * plain_slots p → held ≤ length new
+pub turn : (p : Schedule) (input : List ℕ) (limit head f held n : ℕ) (old new : List ℕ) (left left' before now : Option (List ℕ)) → length new ≡ 204 * slots_at p f → held ≤ length new
     → Progress p input limit head f held old left before now → FilledTo held old new (drop (frame_start p head f + held) input) left' n → Turn p input limit head f n new left' before now
 turn p input limit head f held n old new left left' before now size fits so_far filled =
     let s = frame_start p head f in
@@ -96,7 +96,7 @@ refusal-none : (p : Schedule) (input : List ℕ) (limit head f : ℕ) → has_by
 refusal-none p input limit head f none = rw none refl
 
 -- the input ends at a frame
-pub finished : (p : Schedule) (input : List ℕ) (limit head f : ℕ) (left before now : Option (List ℕ)) → first_head input ≡ Some head → search_refusal input ≡ None → Passed (code_command p input limit).frames f → Wrote (code_command p input limit).frames f before now
+finished : (p : Schedule) (input : List ℕ) (limit head f : ℕ) (left before now : Option (List ℕ)) → first_head input ≡ Some head → search_refusal input ≡ None → Passed (code_command p input limit).frames f → Wrote (code_command p input limit).frames f before now
     → length input ≤ frame_start p head f → left ≡ Some [] → Finished (code_command p input limit) f before now left
 finished p input limit head f left before now found searched passed written le none =
     let gone = not_there p input head f le in
@@ -105,16 +105,17 @@ finished p input limit head f left before now found searched passed written le n
       left_is = none;
     }
 
-pub nothing_came : (p : Schedule) (input : List ℕ) (limit head f : ℕ) (frame : List ℕ) (left before now : Option (List ℕ)) → 0 < plain_slots p → Turn p input limit head f 0 frame left before now → Finished (code_command p input limit) f before now left
-nothing_came p input limit head f frame left before now some t =
-    let count = t.count_is in
-    let le : length input ≤ frame_start p head f = omega (arith, count, some) in
-    finished p input limit head f left before now t.found t.searched t.passed t.written le (t.left_is ∙ ap Some (drop_all (frame_start p head f + 0) input (omega (arith, le))))
+pub nothing_came : (p : Schedule) (input : List ℕ) (limit head f count : ℕ) (frame : List ℕ) (left before now : Option (List ℕ)) → count ≡ 0 → Turn p input limit head f count frame left before now → Finished (code_command p input limit) f before now left
+nothing_came p input limit head f count frame left before now none t =
+    let counted = t.count_is in
+    let some = slots-some p f in
+    let le : length input ≤ frame_start p head f = omega (arith, counted, none, some) in
+    finished p input limit head f left before now t.found t.searched t.passed t.written le (t.left_is ∙ ap Some (drop_all (frame_start p head f + count) input (omega (arith, le, none))))
 
 -- frame f is refused so, and so many bytes were taken
-refused : (p : Schedule) (input : List ℕ) (limit head f taken : ℕ) (fault : CodeFault) (left before now : Option (List ℕ)) → p.switches ≡ [] → first_head input ≡ Some head → search_refusal input ≡ None → Passed (code_command p input limit).frames f → Wrote (code_command p input limit).frames f before now
+refused : (p : Schedule) (input : List ℕ) (limit head f taken : ℕ) (fault : CodeFault) (left before now : Option (List ℕ)) → first_head input ≡ Some head → search_refusal input ≡ None → Passed (code_command p input limit).frames f → Wrote (code_command p input limit).frames f before now
     → frame_refusal p input limit head f ≡ Some fault → left ≡ Some (drop taken input) → taken ≤ frame_start p head (f + 1) → Refused (code_command p input limit).frames (TookAtMost (code_command p input limit) left) fault before now
-refused p input limit head f taken fault left before now plain found searched passed written why left_is most = record {
+refused p input limit head f taken fault left before now found searched passed written why left_is most = record {
   frame = f;
   ended = ended-refused (code_command p input limit).frames f fault before now passed written (refusal-found p input limit head f found searched ∙ why);
   account = record { taken = taken; left_is = left_is; most = (let e = starts-next p input head f found searched in omega (arith, e, most)) };
@@ -134,111 +135,119 @@ second a b c x none is = rw (none, is) refl
 not_at_limit : (f limit : ℕ) → f < limit → (if f == limit then Some TooLong else None) ≡ None
 not_at_limit f limit less = rw (ne_eqb f limit (λ e. omega (arith, e, less))) refl
 
-pub cut_off : (p : Schedule) (input : List ℕ) (limit head f count : ℕ) (frame : List ℕ) (left before now : Option (List ℕ)) → IsPlain p → f < limit → 0 < count → count < 204 * plain_slots p → Turn p input limit head f count frame left before now
+pub cut_off : (p : Schedule) (input : List ℕ) (limit head f count : ℕ) (frame : List ℕ) (left before now : Option (List ℕ)) → f < limit → 0 < count → count < 204 * slots_at p f → Turn p input limit head f count frame left before now
     → Refused (code_command p input limit).frames (TookAtMost (code_command p input limit) left) (Truncated seats.In count) before now
-cut_off p input limit head f count frame left before now plain less some short t =
+cut_off p input limit head f count frame left before now less some short t =
     let counted = t.count_is in
-    let slots = slots-plain p f plain.no_switch in
     let over : length input - frame_start p head f ≡ count = omega (arith, counted, short) in
-    let cut : truncated p input head f ≡ Some (Truncated seats.In count) = rw (lt-ltb (length input) (frame_start p head f + 204 * slots_at p f) (omega (arith, over, slots, short))) (ap (λ n. Some (Truncated seats.In n)) over) in
-    let more = start-more p head f plain.no_switch in
-    refused p input limit head f (frame_start p head f + count) (Truncated seats.In count) left before now plain.no_switch t.found t.searched t.passed t.written
+    let cut : truncated p input head f ≡ Some (Truncated seats.In count) = rw (lt-ltb (length input) (frame_start p head f + 204 * slots_at p f) (omega (arith, over, short))) (ap (λ n. Some (Truncated seats.In n)) over) in
+    let more = start-more p head f in
+    refused p input limit head f (frame_start p head f + count) (Truncated seats.In count) left before now t.found t.searched t.passed t.written
     (refusal-parts p input limit head f (there p input head f (omega (arith, over, some))) ∙ second _ _ _ _ (not_at_limit f limit less) cut)
     t.left_is (omega (arith, more, short))
 
 -- ---- the frame is whole
 
 -- the buffer is the frame
-pub whole_frame : (p : Schedule) (input : List ℕ) (limit head f count : ℕ) (frame : List ℕ) (left before now : Option (List ℕ)) → IsPlain p → length frame ≡ 204 * plain_slots p → length frame ≤ count → Turn p input limit head f count frame left before now
+whole_frame : (p : Schedule) (input : List ℕ) (limit head f count : ℕ) (frame : List ℕ) (left before now : Option (List ℕ)) → length frame ≡ 204 * slots_at p f → length frame ≤ count → Turn p input limit head f count frame left before now
     → frame ≡ frame_at p input head f
-whole_frame p input limit head f count frame left before now plain size full t =
+whole_frame p input limit head f count frame left before now size full t =
     let counted = t.count_is in
-    let slots = slots-plain p f plain.no_switch in
-    let all : count ≡ 204 * slots_at p f = omega (arith, counted, size, full, slots) in
+    let all : count ≡ 204 * slots_at p f = omega (arith, counted, size, full) in
     sym (take_all count frame full) ∙ t.front ∙ ap (λ n. take n (drop (frame_start p head f) input)) all
 
 -- why a whole frame is refused
-refusal-whole : (p : Schedule) (input : List ℕ) (limit head f count : ℕ) (frame : List ℕ) (left before now : Option (List ℕ)) → IsPlain p → 0 < plain_slots p → f < limit → length frame ≡ 204 * plain_slots p → length frame ≤ count → Turn p input limit head f count frame left before now
-    → frame_refusal p input limit head f ≡ refusal p.first.setting p.first.mode f (head + f * plain_slots p) frame
-refusal-whole p input limit head f count frame left before now plain some less size full t =
+refusal-whole : (p : Schedule) (input : List ℕ) (limit head f count : ℕ) (frame : List ℕ) (left before now : Option (List ℕ)) → f < limit → length frame ≡ 204 * slots_at p f → length frame ≤ count → Turn p input limit head f count frame left before now
+    → frame_refusal p input limit head f ≡ refusal (at_frame p f).setting (at_frame p f).mode f (head + packets_before p f) frame
+refusal-whole p input limit head f count frame left before now less size full t =
     let counted = t.count_is in
-    let slots = slots-plain p f plain.no_switch in
-    let is = whole_frame p input limit head f count frame left before now plain size full t in
-    let uncut : truncated p input head f ≡ None = rw (le-ltb (length input) (frame_start p head f + 204 * slots_at p f) (omega (arith, counted, size, full, slots, t.reached))) refl in
+    let some = slots-some p f in
+    let reached = t.reached in
+    let is = whole_frame p input limit head f count frame left before now size full t in
+    let uncut : truncated p input head f ≡ None = rw (le-ltb (length input) (frame_start p head f + 204 * slots_at p f) (omega (arith, counted, size, full, reached))) refl in
     refusal-parts p input limit head f (there p input head f (omega (arith, counted, size, full, some))) ∙ third _ _ _ (not_at_limit f limit less) uncut
-    ∙ ap (λ at. refusal at.setting at.mode f (head + packets_before p f) (frame_at p input head f)) (at_frame-plain p f plain.no_switch)
-    ∙ ap (λ n. refusal p.first.setting p.first.mode f (head + n) (frame_at p input head f)) (packets_before-plain p f plain.no_switch)
-    ∙ ap (λ xs. refusal p.first.setting p.first.mode f (head + f * plain_slots p) xs) (sym is)
+    ∙ ap (λ xs. refusal (at_frame p f).setting (at_frame p f).mode f (head + packets_before p f) xs) (sym is)
 
-pub frame_refused : (p : Schedule) (input : List ℕ) (limit head f count : ℕ) (fault : CodeFault) (frame : List ℕ) (left before now : Option (List ℕ)) → IsPlain p → 0 < plain_slots p → f < limit → length frame ≡ 204 * plain_slots p → length frame ≤ count → Turn p input limit head f count frame left before now
-    → refusal p.first.setting p.first.mode f (head + f * plain_slots p) frame ≡ Some fault → Refused (code_command p input limit).frames (TookAtMost (code_command p input limit) left) fault before now
-frame_refused p input limit head f count fault frame left before now plain some less size full t why =
-    let more = start-more p head f plain.no_switch in
+pub frame_refused : (p : Schedule) (input : List ℕ) (limit head f count first : ℕ) (fault : CodeFault) (frame : List ℕ) (left before now : Option (List ℕ)) → f < limit → first ≡ head + packets_before p f → length frame ≡ 204 * slots_at p f → length frame ≤ count
+    → Turn p input limit head f count frame left before now → refusal (at_frame p f).setting (at_frame p f).mode f first frame ≡ Some fault → Refused (code_command p input limit).frames (TookAtMost (code_command p input limit) left) fault before now
+frame_refused p input limit head f count first fault frame left before now less place size full t why =
+    let more = start-more p head f in
     let counted = t.count_is in
-    refused p input limit head f (frame_start p head f + count) fault left before now plain.no_switch t.found t.searched t.passed t.written (refusal-whole p input limit head f count frame left before now plain some less size full t ∙ why)
+    refused p input limit head f (frame_start p head f + count) fault left before now t.found t.searched t.passed t.written
+    (refusal-whole p input limit head f count frame left before now less size full t ∙ ap (λ n. refusal (at_frame p f).setting (at_frame p f).mode f n frame) (sym place) ∙ why)
     t.left_is (omega (arith, more, counted))
 
--- the packets of the frame are those of the buffer
-pub is_frame : (p : Schedule) (input : List ℕ) (limit head f count : ℕ) (frame : List ℕ) (left before now : Option (List ℕ)) (s : Parameters) (mode : Mode) → IsPlain p → length frame ≡ 204 * plain_slots p → length frame ≤ count → Turn p input limit head f count frame left before now
-    → IsFrameOf s mode frame (input_frames p input head) f
-is_frame p input limit head f count frame left before now s mode plain size full t =
-    record { each = λ x j less. ap (λ xs. packet_in xs x j) (sym (whole_frame p input limit head f count frame left before now plain size full t)) }
-
--- the first frames, and this one, are passed
-pub passed_frame : (p : Schedule) (input : List ℕ) (limit head f count : ℕ) (frame : List ℕ) (left before now : Option (List ℕ)) → IsPlain p → 0 < plain_slots p → f < limit → length frame ≡ 204 * plain_slots p → length frame ≤ count → Turn p input limit head f count frame left before now
-    → refusal p.first.setting p.first.mode f (head + f * plain_slots p) frame ≡ None → Passed (code_command p input limit).frames (f + 1)
-passed_frame p input limit head f count frame left before now plain some less size full t fine =
-    passed-more (code_command p input limit).frames f t.passed
-    (refusal-found p input limit head f t.found t.searched ∙ refusal-whole p input limit head f count frame left before now plain some less size full t ∙ fine)
-    (there-found p input head f t.found ∙ there p input head f (let counted = t.count_is in omega (arith, counted, size, full, some)))
-
--- the bytes of the frame were taken
-taken_all : (p : Schedule) (input : List ℕ) (limit head f count : ℕ) (frame : List ℕ) (left before now : Option (List ℕ)) → IsPlain p → length frame ≡ 204 * plain_slots p → length frame ≤ count → Turn p input limit head f count frame left before now
-    → frame_start p head f + count ≡ frame_start p head (f + 1)
-taken_all p input limit head f count frame left before now plain size full t =
+-- a whole frame that is not refused is passed
+pub taken : (p : Schedule) (input : List ℕ) (limit head f count first : ℕ) (frame : List ℕ) (left before now : Option (List ℕ)) → f < limit → first ≡ head + packets_before p f → length frame ≡ 204 * slots_at p f → length frame ≤ count
+    → Turn p input limit head f count frame left before now → refusal (at_frame p f).setting (at_frame p f).mode f first frame ≡ None → Taken p input limit head f frame left before now
+taken p input limit head f count first frame left before now less place size full t fine =
     let counted = t.count_is in
-    let more = start-more p head f plain.no_switch in
-    omega (arith, counted, more, size, full)
-
-pub next : (p : Schedule) (input : List ℕ) (limit head f count : ℕ) (frame : List ℕ) (left before mid after : Option (List ℕ)) → IsPlain p → length frame ≡ 204 * plain_slots p → length frame ≤ count → Turn p input limit head f count frame left before mid
-    → Passed (code_command p input limit).frames (f + 1) → after ≡ append_known mid (coded_frame p input f) → Progress p input limit head (f + 1) 0 frame left before after
-next p input limit head f count frame left before mid after plain size full t passed wrote =
-    let taken = taken_all p input limit head f count frame left before mid plain size full t in
-    let counted = t.count_is in
+    let some = slots-some p f in
+    let reached = t.reached in
+    let more = start-more p head f in
+    let all : frame_start p head f + count ≡ frame_start p head (f + 1) = omega (arith, counted, more, size, full) in
     record {
       found = t.found;
       searched = t.searched;
-      passed = passed;
-      written = wrote-more (code_command p input limit).frames f before mid after t.written wrote;
-      holds = refl;
-      within = omega (arith, taken, counted, size, full, t.reached);
-      left_is = t.left_is ∙ ap (λ n. Some (drop n input)) (let e : frame_start p head f + count ≡ frame_start p head (f + 1) + 0 = omega (arith, taken) in e);
+      passed = passed-more (code_command p input limit).frames f t.passed
+          (refusal-found p input limit head f t.found t.searched ∙ refusal-whole p input limit head f count frame left before now less size full t ∙ ap (λ n. refusal (at_frame p f).setting (at_frame p f).mode f n frame) (sym place) ∙ fine)
+          (there-found p input head f t.found ∙ there p input head f (omega (arith, counted, size, full, some)));
+      written = t.written;
+      frame_is = whole_frame p input limit head f count frame left before now size full t;
+      within = omega (arith, all, counted, size, full, reached);
+      left_is = t.left_is ∙ ap (λ n. Some (drop n input)) all;
     }
 
-pub write_failed : (p : Schedule) (input : List ℕ) (limit head f count n : ℕ) (frame : List ℕ) (left before mid after : Option (List ℕ)) → IsPlain p → length frame ≡ 204 * plain_slots p → length frame ≤ count → Turn p input limit head f count frame left before mid
-    → Passed (code_command p input limit).frames (f + 1) → n < length (coded_frame p input f) → after ≡ append_known mid (take n (coded_frame p input f)) → WriteFailed (code_command p input limit).frames (Took (code_command p input limit) left) before after
-write_failed p input limit head f count n frame left before mid after plain size full t passed short wrote = record {
+-- ---- behind a frame that was taken
+
+pub next : (p : Schedule) (input : List ℕ) (limit head f : ℕ) (frame other : List ℕ) (left before mid after : Option (List ℕ)) → Taken p input limit head f frame left before mid
+    → after ≡ append_known mid (coded_frame p input f) → Progress p input limit head (f + 1) 0 other left before after
+next p input limit head f frame other left before mid after t wrote =
+    let none : frame_start p head (f + 1) + 0 ≡ frame_start p head (f + 1) = omega arith in
+    record {
+      found = t.found;
+      searched = t.searched;
+      passed = t.passed;
+      written = wrote-more (code_command p input limit).frames f before mid after t.written wrote;
+      holds = refl;
+      within = (let within = t.within in omega (arith, none, within));
+      left_is = t.left_is ∙ ap (λ n. Some (drop n input)) (sym none);
+    }
+
+-- all bytes up to the end of the frame were taken
+took : (p : Schedule) (input : List ℕ) (limit head f : ℕ) (frame : List ℕ) (left before now : Option (List ℕ)) → Taken p input limit head f frame left before now → Took (code_command p input limit) left (f + 1)
+took p input limit head f frame left before now t = t.left_is ∙ ap (λ n. Some (drop n input)) (sym (starts-next p input head f t.found t.searched))
+
+pub write_failed : (p : Schedule) (input : List ℕ) (limit head f n : ℕ) (frame : List ℕ) (left before mid after : Option (List ℕ)) → Taken p input limit head f frame left before mid
+    → n < length (coded_frame p input f) → after ≡ append_known mid (take n (coded_frame p input f)) → WriteFailed (code_command p input limit).frames (Took (code_command p input limit) left) before after
+write_failed p input limit head f n frame left before mid after t short wrote = record {
   frame = f;
   sent = n;
-  passed = passed;
+  passed = t.passed;
   short = short;
   written = wrote_part (code_command p input limit).frames f n before mid after t.written wrote;
-  account = t.left_is ∙ ap (λ n. Some (drop n input)) (taken_all p input limit head f count frame left before mid plain size full t ∙ sym (starts-next p input head f t.found t.searched));
+  account = took p input limit head f frame left before mid t;
 }
 
--- what was written of the frame
-pub wrote_all : (p : Schedule) (input : List ℕ) (head f : ℕ) (cells : List ℕ) (mid after : Option (List ℕ)) → cells ≡ coded_frame p input f → after ≡ append_known mid cells → after ≡ append_known mid (coded_frame p input f)
-wrote_all p input head f cells mid after is wrote = wrote ∙ ap (append_known mid) is
+-- an epoch opens with the frame, and there is no memory for its coder
+pub wants_memory : (p : Schedule) (input : List ℕ) (limit head f : ℕ) (frame : List ℕ) (left before now : Option (List ℕ)) → begins_later p f ≡ true → Taken p input limit head f frame left before now
+    → WantsMemory (code_command p input limit).frames (Took (code_command p input limit) left) before now
+wants_memory p input limit head f frame left before now opens t = record {
+  frame = f;
+  opens = opens;
+  passed = t.passed;
+  written = t.written;
+  account = took p input limit head f frame left before now t;
+}
 
 -- ---- a read failed
 
-pub read_failed : (p : Schedule) (input : List ℕ) (limit head f held : ℕ) (old new : List ℕ) (left left' before now : Option (List ℕ)) → IsPlain p → f < limit → length new ≡ 204 * plain_slots p
+pub read_failed : (p : Schedule) (input : List ℕ) (limit head f held : ℕ) (old new : List ℕ) (left left' before now : Option (List ℕ)) → f < limit → length new ≡ 204 * slots_at p f
     → Progress p input limit head f held old left before now → StoppedBelow held new (drop (frame_start p head f + held) input) left' → ReadFailed (code_command p input limit).frames (λ g seat. Stopped (code_command p input limit) left' g) seats.In before now
-read_failed p input limit head f held old new left left' before now plain less size so_far stop =
+read_failed p input limit head f held old new left left' before now less size so_far stop =
     let below = stop.below in
-    let more = start-more p head f plain.no_switch in
-    let rises = start-rises p head (f + 1) (limit - (f + 1)) plain.no_switch in
-    let last = ap (λ g. frame_start p head g) (let e : f + 1 + (limit - (f + 1)) ≡ limit = omega (arith, less) in e) in
+    let more = start-more p head f in
+    let rises = start-later p head (f + 1) limit (omega (arith, less)) in
     let next = starts-next p input head f so_far.found so_far.searched in
     let end = starts-found p input head limit so_far.found so_far.searched (omega (arith, less)) in
     record {
@@ -250,7 +259,7 @@ read_failed p input limit head f held old new left left' before now plain less s
         left_is = stop.left_is ∙ ap Some (drop-drop stop.taken (frame_start p head f + held) input);
         from = (let within = starts-within p input head f so_far.found so_far.searched in omega (arith, within));
         below = omega (arith, below, more, size, next);
-        most = omega (arith, below, more, size, rises, last, end);
+        most = omega (arith, below, more, size, rises, end);
       };
     }
 
@@ -270,19 +279,21 @@ ended_at_limit p input limit head held m frame left left' before now none so_far
     subst (λ k. Finished (code_command p input limit) k before now left') (sym is)
     (finished p input limit head limit left' before now so_far.found so_far.searched so_far.passed so_far.written (omega (arith, size, nothing, none)) gone)
 
-pub too_long : (p : Schedule) (input : List ℕ) (limit head held : ℕ) (frame : List ℕ) (left left' before now : Option (List ℕ)) → IsPlain p → 0 < plain_slots p → held ≡ 0 → Progress p input limit head limit held frame left before now
+pub too_long : (p : Schedule) (input : List ℕ) (limit head held : ℕ) (frame : List ℕ) (left left' before now : Option (List ℕ)) → held ≡ 0 → Progress p input limit head limit held frame left before now
     → 0 < length (drop (frame_start p head limit + held) input) → left' ≡ Some (drop 1 (drop (frame_start p head limit + held) input)) → Refused (code_command p input limit).frames (TookAtMost (code_command p input limit) left') TooLong before now
-too_long p input limit head held frame left left' before now plain some none so_far more one =
+too_long p input limit head held frame left left' before now none so_far more one =
     let size = length-drop (frame_start p head limit + held) input in
-    let next = start-more p head limit plain.no_switch in
-    refused p input limit head limit (frame_start p head limit + held + 1) TooLong left' before now plain.no_switch so_far.found so_far.searched so_far.passed so_far.written
+    let next = start-more p head limit in
+    let some = slots-some p limit in
+    refused p input limit head limit (frame_start p head limit + held + 1) TooLong left' before now so_far.found so_far.searched so_far.passed so_far.written
     (refusal-parts p input limit head limit (there p input head limit (omega (arith, size, more, none))) ∙ first-of _ _ _ TooLong (at_limit limit))
     (one ∙ ap Some (drop-drop 1 (frame_start p head limit + held) input)) (omega (arith, next, some, none))
 
-pub stopped_at_limit : (p : Schedule) (input : List ℕ) (limit head held : ℕ) (frame : List ℕ) (left left' before now : Option (List ℕ)) → 0 < limit → IsPlain p → 0 < plain_slots p → held ≡ 0 → Progress p input limit head limit held frame left before now
+pub stopped_at_limit : (p : Schedule) (input : List ℕ) (limit head held : ℕ) (frame : List ℕ) (left left' before now : Option (List ℕ)) → 0 < limit → held ≡ 0 → Progress p input limit head limit held frame left before now
     → left' ≡ Some (drop (frame_start p head limit + held) input) → ReadFailed (code_command p input limit).frames (λ g seat. Stopped (code_command p input limit) left' g) seats.In before now
-stopped_at_limit p input limit head held frame left left' before now few plain some none so_far rest =
-    let more = start-more p head limit plain.no_switch in
+stopped_at_limit p input limit head held frame left left' before now few none so_far rest =
+    let more = start-more p head limit in
+    let some = slots-some p limit in
     let next = starts-next p input head limit so_far.found so_far.searched in
     let end = starts-found p input head limit so_far.found so_far.searched few in
     record {
@@ -297,16 +308,3 @@ stopped_at_limit p input limit head held frame left left' before now few plain s
         most = omega (arith, none, end);
       };
     }
-
--- ---- what the calls say of the plan's mode and setting
-
-pub check_of : (s t : Parameters) (mode mode' : Mode) (number first first' : ℕ) (frame : List ℕ) (o : Option CodeFault) → s ≡ t → mode ≡ mode' → first ≡ first' → refusal s mode number first frame ≡ o → refusal t mode' number first' frame ≡ o
-check_of s t mode mode' number first first' frame o is is' at why = rw (sym is, sym is', sym at) why
-
-pub cells_are : (p : Schedule) (input : List ℕ) (head f : ℕ) (mode : Mode) (s : Parameters) → p.switches ≡ [] → first_head input ≡ Some head → mode ≡ p.first.mode → s ≡ p.first.setting
-    → epoch_frame_cells mode s (input_frames p input head) 0 f (plan_word p f) ≡ coded_frame p input f
-cells_are p input head f mode s none found is is' =
-    ap (λ m. epoch_frame_cells m s (input_frames p input head) 0 f (plan_word p f)) is ∙ ap (λ t. epoch_frame_cells p.first.mode t (input_frames p input head) 0 f (plan_word p f)) is' ∙ sym (coded-found p input head f none found)
-
-pub wrote_some : (cells frame : List ℕ) (n : ℕ) (mid after : Option (List ℕ)) → cells ≡ frame → n < length cells → after ≡ append_known mid (take n cells) → (n < length frame) × (after ≡ append_known mid (take n frame))
-wrote_some cells frame n mid after same short wrote = (subst (λ (xs : List ℕ). n < length xs) same short, wrote ∙ ap (λ xs. append_known mid (take n xs)) same)

@@ -4,11 +4,14 @@ pub mod Codable
 pub mod CodeProgress
 pub mod CodeStarts
 pub mod EpochFrames
+pub mod EpochSteps
 pub mod FirstCauses
+pub mod FoundHead
+pub mod FrameRoom
+pub mod FrameStarts
 pub mod FrameSymbols
 pub mod Gathered
 pub mod PartFrames
-pub mod PlainFrames
 pub mod NextEpoch
 pub mod PlanWords
 pub mod Ranges

@@ -5,7 +5,8 @@ use Rattle.isdbt_base.specs.Plans.{Schedule, IsPlan}
 use Rattle.tmcc_word.specs.Reading.{read}
 use Rattle.tmcc_word.proofs.ReadBack.{read-word_of}
 use Rattle.coder_core.specs.SentCells.{plan_word, plan_info}
-use Rattle.coder_core.proofs.PlanEpochs.{at_countdown-le, setting_accepted, next_accepted}
+use Rattle.isdbt_base.proofs.PlanEpochs.{at_countdown-le, setting_accepted}
+use Rattle.coder_core.proofs.NextEpoch.{next_accepted}
 
 -- the word of a frame of a plan reads as the plan has it
 pub read-plan_word : (p : Schedule) (f : ℕ) → IsPlan p → read (plan_word p f) ≡ Ok (plan_info p f, f % 2 == 1)

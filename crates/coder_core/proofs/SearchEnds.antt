@@ -10,7 +10,7 @@ use Rattle.coder_core.specs.declared.fault.CodeFault.{CodeFault}
 use Rattle.coder_core.specs.InputFrames.{first_head, frame_start}
 use Rattle.coder_core.specs.CodeRefusals.{packet_refusal, search_refusal, code_refusal, is_there, code_starts}
 use Rattle.coder_core.specs.Answers.{code_kind, code_command, StoppedInSearch, SearchRefused, SearchFault, SearchAnswer}
-use Rattle.coder_core.proofs.PlainFrames.{plain_slots, start-zero, start-more, start-rises}
+use Rattle.coder_core.proofs.FrameStarts.{slots-some, start-zero, start-more, start-later}
 use Rattle.coder_core.proofs.CodeStarts.{starts-zero, starts-found, starts-refused, starts-none, search_stop-least}
 use Rattle.coder_core.proofs.Searching.{head-from, not_short}
 
@@ -50,29 +50,29 @@ good-whole input zero good = omega arith
 good-whole input (suc k) good = (let e = not_short input k (good k (omega arith)) in omega (arith, e))
 
 -- a read that stopped in the search stopped in frame 0
-below-end : (p : Schedule) (input : List ℕ) (taken f : ℕ) (r : Option CodeFault) (o : Option ℕ) → p.switches ≡ [] → 0 < plain_slots p → 0 < f → search_refusal input ≡ r → first_head input ≡ o → StoppedInSearch input taken → taken < code_starts p input f
-below-end p input taken f (Some fault) o none slots some why is stop =
+below-end : (p : Schedule) (input : List ℕ) (taken f : ℕ) (r : Option CodeFault) (o : Option ℕ) → 0 < f → search_refusal input ≡ r → first_head input ≡ o → StoppedInSearch input taken → taken < code_starts p input f
+below-end p input taken f (Some fault) o some why is stop =
     let e = starts-refused p input f fault why some in
     let least = search_stop-least input stop.packets stop.good stop.no_head (good-whole input stop.packets stop.good) in
     omega (arith, e, least, stop.below, stop.most)
-below-end p input taken f None None none slots some why is stop =
+below-end p input taken f None None some why is stop =
     let e = starts-none p input f None why is some in
     let least = search_stop-least input stop.packets stop.good stop.no_head (good-whole input stop.packets stop.good) in
     omega (arith, e, least, stop.below, stop.most)
-below-end p input taken f None (Some head) none slots some why is stop =
+below-end p input taken f None (Some head) some why is stop =
     let e = starts-found p input head f is why some in
     let first = start-zero p head in
-    let one = start-more p head 0 none in
-    let rises = start-rises p head 1 (f - 1) none in
-    let last = ap (λ g. frame_start p head g) (let e' : 1 + (f - 1) ≡ f = omega (arith, some) in e') in
+    let one = start-more p head 0 in
+    let slots = slots-some p 0 in
+    let rises = start-later p head 1 f (omega (arith, some)) in
     let past = head-from input stop.packets head stop.no_head is in
-    omega (arith, e, first, one, rises, last, past, stop.below, slots)
+    omega (arith, e, first, one, rises, past, stop.below, slots)
 
-stopped : (p : Schedule) (input : List ℕ) (limit : ℕ) (seat : Seat) (left before : Option (List ℕ)) → p.switches ≡ [] → 0 < plain_slots p → 0 < limit → (taken : ℕ) × (left ≡ Some (drop taken input)) × StoppedInSearch input taken
+stopped : (p : Schedule) (input : List ℕ) (limit : ℕ) (seat : Seat) (left before : Option (List ℕ)) → 0 < limit → (taken : ℕ) × (left ≡ Some (drop taken input)) × StoppedInSearch input taken
     → ReadFailed (code_command p input limit).frames (λ f seat. Stopped (code_command p input limit) left f) seat before before
-stopped p input limit seat left before none slots some said =
-    let below = below-end p input said.0 1 (search_refusal input) (first_head input) none slots (omega arith) refl refl said.2 in
-    let end = below-end p input said.0 limit (search_refusal input) (first_head input) none slots some refl refl said.2 in
+stopped p input limit seat left before some said =
+    let below = below-end p input said.0 1 (search_refusal input) (first_head input) (omega arith) refl refl said.2 in
+    let end = below-end p input said.0 limit (search_refusal input) (first_head input) some refl refl said.2 in
     record {
       frame = 0;
       passed = passed-none (code_command p input limit).frames;
@@ -80,13 +80,13 @@ stopped p input limit seat left before none slots some said =
       account = record { taken = said.0; left_is = said.1; from = (let first = starts-zero p input in omega (arith, first)); below = below; most = omega (arith, end) };
     }
 
-ended : (p : Schedule) (input : List ℕ) (limit : ℕ) (left before : Option (List ℕ)) (fault : CodeFault) (kind : FaultKind) → p.switches ≡ [] → 0 < plain_slots p → 0 < limit → SearchFault input left fault kind
+ended : (p : Schedule) (input : List ℕ) (limit : ℕ) (left before : Option (List ℕ)) (fault : CodeFault) (kind : FaultKind) → 0 < limit → SearchFault input left fault kind
     → FaultAnswer (code_command p input limit).frames (lone_account (code_command p input limit) left) before before fault kind
-ended p input limit left before fault frame_refused none slots some said = refused p input limit fault left before said
-ended p input limit left before fault (read_failed seat) none slots some said = stopped p input limit seat left before none slots some said
-ended p input limit left before fault write_failed none slots some said = absurd said
-ended p input limit left before fault no_memory none slots some said = absurd said
+ended p input limit left before fault frame_refused some said = refused p input limit fault left before said
+ended p input limit left before fault (read_failed seat) some said = stopped p input limit seat left before some said
+ended p input limit left before fault write_failed some said = absurd said
+ended p input limit left before fault no_memory some said = absurd said
 
-pub search_ended : (p : Schedule) (input : List ℕ) (limit : ℕ) (packet : List ℕ) (left before : Option (List ℕ)) (fault : CodeFault) → p.switches ≡ [] → 0 < plain_slots p → 0 < limit → SearchAnswer input packet left (Err fault)
+pub search_ended : (p : Schedule) (input : List ℕ) (limit : ℕ) (packet : List ℕ) (left before : Option (List ℕ)) (fault : CodeFault) → 0 < limit → SearchAnswer input packet left (Err fault)
     → LoneAnswer code_kind (code_command p input limit) before before left (Err fault)
-search_ended p input limit packet left before fault none slots some said = ended p input limit left before fault (code_kind fault) none slots some said
+search_ended p input limit packet left before fault some said = ended p input limit left before fault (code_kind fault) some said

@@ -19,7 +19,7 @@ use Rattle.cell_map.specs.declared.cell.Cell.{Cell}
 use Rattle.cell_map.specs.Levels.{cell_of}
 use Rattle.layer_chain.proofs.StableCells.{cell_bits_at-same}
 use Rattle.coder_core.specs.SentCells.{epoch_packet, layer_cell_at, segment_layer, cell_in, epoch_cell, cell_bytes, symbol_bytes, epoch_frame_cells, frame_cells, plan_word, AgreeUpTo}
-use Rattle.coder_core.proofs.PlanEpochs.{epoch_start-le, same_epoch, setting_accepted}
+use Rattle.isdbt_base.proofs.PlanEpochs.{epoch_start-le, same_epoch, setting_accepted}
 use Rattle.coder_core.proofs.SegmentCells.{carriers-positive}
 
 -- ---- layers and segments

@@ -2,7 +2,6 @@
 use Rattle.std.specs.Prelude.{◌≡◌, ℕ, ◌+◌, ◌*◌, ◌≤◌, ◌<◌, false, List, [], length, drop, Some, None, Ok, Err}
 use Rattle.std.specs.declared.option.Option.{Option}
 use Rattle.std.specs.declared.result.Result.{Result}
-use Rattle.isdbt_base.specs.Parameters.{IsAccepted}
 use Rattle.isdbt_base.specs.Plans.{Schedule}
 use Rattle.isdbt_base.specs.Epochs.{begins_later}
 use Rattle.ts_packet.specs.Packets.{piece}
@@ -37,11 +36,6 @@ pub record StoppedInSearch (input : List ℕ) (taken : ℕ) : Type 0 where
   pub from : 204 * packets ≤ taken
   pub below : taken < 204 * (packets + 1)
   pub most : taken ≤ 204 * search_limit
-
--- a plan without switches, whose setting is accepted
-pub record IsPlain (p : Schedule) : Type 0 where
-  pub no_switch : p.switches ≡ []
-  pub accepted : IsAccepted p.first.setting
 
 -- ---- the parts of the command
 

@@ -1,4 +1,4 @@
--- The frames of a stream of broadcast packets of 204 bytes: from the first packet that bears the frame head flag on, as many packets a frame as the frame has slots (after ARIB STD-B31 5.5).
+-- The frames of a stream of broadcast packets of 204 bytes: from the first packet that bears the frame head flag on, as many packets a frame as the frame has slots.
 use Rattle.std.specs.Prelude.{ℕ, ◌+◌, ◌*◌, Bool, Option, List, find, drop, take, slice_index, sum_by}
 use Rattle.std.specs.List.{range_with_len}
 use Rattle.isdbt_base.specs.declared.kinds.Layer.{Layer}

@@ -1,9 +1,11 @@
+pub mod Answers
+pub mod Buffers
+pub mod CodeRefusals
 pub mod Coder
 pub mod FrameChecks
+pub mod FrameSteps
 pub mod InputFrames
 pub mod LayerPart
 pub mod SentCells
-pub mod CodeRefusals
-pub mod Answers
 pub mod Symbols
 pub mod UsedLayers

@@ -1,4 +1,4 @@
--- The cells that are sent of frames of packets (ARIB STD-B31 3.3 to 3.15), in this project's own layout of the cell stream: for each frame 204 symbols, each of a byte whose lowest bit is the TMCC bit and of 13 segments of cells, by segment and then by carrier, each of two bytes.
+-- The cells that are sent of frames of packets (ARIB STD-B31 chapter 3), in this project's own layout of the cell stream: for each frame 204 symbols, each of a byte whose lowest bit is the TMCC bit and of 13 segments of cells, by segment and then by carrier, each of two bytes.
 use Rattle.std.specs.Prelude.{◌≡◌, ℕ, ◌<◌, ◌≤◌, ◌+◌, ◌-◌, ◌*◌, ◌/◌, ◌%◌, Bool, false, ◌==◌, Option, Some, None, List, [], ◌∷◌, pos, flat_map, slice_index_or, if◌then◌else◌, nat_lt}
 use Rattle.std.specs.List.{range_with_len}
 use Rattle.std.specs.Int.{w8, cast_unsigned, from_bool}

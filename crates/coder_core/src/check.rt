@@ -167,7 +167,7 @@ fn cause(
 
 /// Whether the frame with this number can be coded with the setting, or the first cause to refuse it: a packet without
 /// sync byte, a misplaced head flag, a layer (A, B, C) with another count of packets. The frame is whole broadcast
-/// packets of 204 bytes, and before its first stand `first_packet` packets of the input (after ARIB STD-B31 5.5).
+/// packets of 204 bytes, and before its first stand `first_packet` packets of the input.
 pub fn check_frame(
     setting: &Setting,
     mode: Mode,

@@ -12,7 +12,7 @@ use isdbt_base::{Guard, Layer, Mode, NoMemory, Setting};
 use std::alloc::Global;
 
 /// Channel coder of one epoch, for up to three layers: each layer's coded bits, interleaving and cells, and the symbols
-/// that they make with the bits of the TMCC word (ARIB STD-B31 3.3 to 3.15).
+/// that they make with the bits of the TMCC word (ARIB STD-B31 chapter 3).
 ///
 /// It takes an epoch's frames of broadcast packets one by one, and gives each frame's cells at once: 204 symbols, each a
 /// byte whose lowest bit is the TMCC bit, and 13 segments of 96, 192 or 384 cells, by segment and then by carrier, each
@@ -70,7 +70,7 @@ impl Coder {
 
     /// Whether the frame with this number can be coded, or the first cause to refuse it: a packet without sync byte, a
     /// misplaced head flag, a layer (A, B, C) with another count of packets. The frame is a broadcast packet of 204 bytes
-    /// for each slot, and before its first stand `first_packet` packets of the input (after ARIB STD-B31 5.5).
+    /// for each slot, and before its first stand `first_packet` packets of the input.
     pub fn check(&self, frame: u32, first_packet: u64, bytes: &[u8]) -> Result<(), CodeFault>
         requires first { first_packet ≤ 2 ^ 60 }
         requires size { length bytes.now ≡ 204 * slots_per_frame (mode_of self.now) (guard_of self.now) }

@@ -1,24 +1,25 @@
-use Rattle.std.proofs.Common.{◌≡◌, ℕ, ◌≤◌, ◌<◌, List, true, take}
+use Rattle.std.proofs.Common.{◌≡◌, ℕ, ◌+◌, ◌*◌, ◌≤◌, ◌<◌, List, true, false, take, vec_items}
+use Rattle.isdbt_base.specs.Epochs.{begins_later}
 use Rattle.edge_io.specs.declared.shelf.Seat.TheVariants as seats
-use Rattle.coder_core.specs.InputFrames.{input_frames}
-use Rattle.coder_core.specs.Coder.{mode_of, guard_of, setting_of, StandsFor}
+use Rattle.coder_core.specs.InputFrames.{packets_before}
 use Rattle.coder_core.specs.Answers.{Found}
-use Rattle.coder_core.proofs.CodeProgress.{Progress}
+use Rattle.coder_core.specs.Buffers.{HasRoom}
+use Rattle.coder_core.specs.FrameSteps.{IsOfFrame, AtFrame}
 use Rattle.coder_core.proofs.coding.code_frames.Given as goal
 
 abbrev pub invariant-loop-number : goal.invariant-loop-number
 invariant-loop-number g l = record {
-  mode : mode_of l.coder ≡ l.plan.first.mode;
-  guard : guard_of l.coder ≡ l.plan.first.guard;
-  setting : setting_of l.coder ≡ l.plan.first.setting;
+  coder : begins_later l.plan l.number ≡ false → IsOfFrame l.coder l.plan l.number;
+  place : l.first_packet ≡ l.span.head + packets_before l.plan l.number;
+  few : l.first_packet ≤ 65536 + 5120 * l.number;
   held_few : l.held ≤ 204;
   held_later : 0 < l.number → l.held ≡ 0;
+  room_for : HasRoom l.plan l.buffers;
   is_open : g.H.Shelf.is_open l.shelf seats.In ≡ true;
   still_open : g.H.Shelf.is_open l.shelf ≡ g.H.Shelf.is_open l.initial.shelf;
   shelf_kept : g.H.Shelf.faults l.shelf ≡ g.H.Shelf.faults l.initial.shelf;
   sink_kept : g.K.Sink.faults l.sink ≡ g.K.Sink.faults l.initial.sink;
   sink_room : g.K.Sink.room l.sink ≡ g.K.Sink.room l.initial.sink;
-  stands : (input : List ℕ) → Found input l.span.head (take 204 l.initial.frame) (g.H.Shelf.left l.initial.shelf seats.In) → StandsFor l.coder (input_frames l.plan input l.span.head) 0 l.number;
-  told : (input : List ℕ) → Found input l.span.head (take 204 l.initial.frame) (g.H.Shelf.left l.initial.shelf seats.In)
-      → Progress l.plan input l.span.limit l.span.head l.number l.held l.frame (g.H.Shelf.left l.shelf seats.In) (g.K.Sink.written l.initial.sink) (g.K.Sink.written l.sink);
+  told : (input : List ℕ) → Found input l.span.head (take 204 (vec_items l.initial.buffers.frame)) (g.H.Shelf.left l.initial.shelf seats.In)
+      → AtFrame l.plan input l.span.limit l.span.head l.number l.held l.coder (vec_items l.buffers.frame) (g.H.Shelf.left l.shelf seats.In) (g.K.Sink.written l.initial.sink) (g.K.Sink.written l.sink);
 }
