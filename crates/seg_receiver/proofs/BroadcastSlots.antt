@@ -12,7 +12,7 @@ use Rattle.isdbt_base.specs.declared.kinds.Layer.{Layer}
 use Rattle.isdbt_base.specs.declared.kinds.Layer.TheVariants.{A, B, C}
 use Rattle.isdbt_base.specs.Parameters.{Parameters, IsAccepted, layer_of, number_of}
 use Rattle.isdbt_base.specs.Numbers.{packets_per_frame, slots_per_frame}
-use Rattle.ts_packet.specs.Packets.{piece}
+use Rattle.ts_packet.specs.Packets.{piece, null_packet}
 use Rattle.ts_packet.proofs.PieceLaws.{length-null_packet}
 use Rattle.bts_info.specs.Fields.{Tag}
 use Rattle.bts_info.specs.Information.{information, info_for, indicator, named_layer, has_head, layer_named}

@@ -18,6 +18,7 @@ returns-clause-frame c = λ cell start h stands.
     let d = gives_layer mode s C c.take_frame-3.new.self cell start h c.bytes-3.result.now (c.take_frame-3.ensures.mode ∙ self.c_mode) (c.take_frame-3.ensures.layer ∙ self.c_layer) c.bytes-3.ensures.value (c.take_frame-3.ensures.packets cell start (first_segment s C) h stands.c_stands) in
     let packets : LayerPackets = record { a = c.bytes.result; b = c.bytes-2.result; c = c.bytes-3.result } in
     c.write.ensures
+    ∙ ap (λ first. ordered_frame self.order.mode self.order.guard self.order.setting c.args.tag.now first (layer_packet packets)) c.null.ensures.value
     ∙ ap (λ m. ordered_frame m self.order.guard self.order.setting c.args.tag.now null_packet (layer_packet packets)) self.order_mode
     ∙ ap (λ g. ordered_frame mode g self.order.setting c.args.tag.now null_packet (layer_packet packets)) self.order_guard
     ∙ ap (λ t. ordered_frame mode self.guard t c.args.tag.now null_packet (layer_packet packets)) self.order_setting
