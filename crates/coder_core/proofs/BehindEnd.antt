@@ -1,11 +1,11 @@
 -- No frame behind the end of a stream is refused.
-use Rattle.std.proofs.Common.{◌≡◌, ℕ, zero, suc, ◌+◌, ◌-◌, ◌≤◌, ◌<◌, false, List, length, refl, ap, ◌∙◌, arith, inl, inr}
+use Rattle.std.proofs.Common.{◌≡◌, ℕ, ◌≤◌, ◌<◌, false, List, length, refl, ap, ◌∙◌, arith, inl, inr}
 use Rattle.std.specs.Prelude.{Some, None}
 use Rattle.std.specs.declared.option.Option.{Option}
 use Rattle.std.proofs.lemmas.Bool.{cases_lt, ne_eqb, ltb-false, le-ltb}
 use Rattle.isdbt_base.specs.Outcome.{IsOutcome}
 use Rattle.isdbt_base.specs.Plans.{Schedule}
-use Rattle.coder_core.specs.InputFrames.{first_head, packets_before, frame_start}
+use Rattle.coder_core.specs.InputFrames.{first_head, frame_start}
 use Rattle.coder_core.specs.CodeRefusals.{has_byte_of, refusal_from, code_refusal, there_from, is_there}
 use Rattle.coder_core.proofs.FrameStarts.{start-later}
 

@@ -1,6 +1,6 @@
 -- How far the frames of a stream have come.
 use Rattle.std.proofs.Common.{◌≡◌, ℕ, ◌+◌, ◌-◌, ◌*◌, ◌≤◌, ◌<◌, min, true, false, List, [], ◌∷◌, ◌++◌, length, take, drop, refl, ap, sym, ◌∙◌, subst, arith, drop-drop, length-drop}
-use Rattle.std.specs.Prelude.{Some, None, Ok, Err, ◌==◌, if◌then◌else◌}
+use Rattle.std.specs.Prelude.{Some, None, ◌==◌, if◌then◌else◌}
 use Rattle.std.specs.declared.option.Option.{Option}
 use Rattle.std.proofs.Math.Seq.{take-add}
 use Rattle.std.proofs.lemmas.Bool.{ne_eqb, eq-eqb, lt-ltb, le-ltb}

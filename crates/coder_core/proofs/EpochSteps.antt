@@ -1,5 +1,5 @@
 -- What a coder stands for from one frame of a plan to the next.
-use Rattle.std.proofs.Common.{◌≡◌, ℕ, suc, ◌+◌, ◌-◌, ◌≤◌, ◌<◌, Bool, true, false, List, length, take, refl, ap, sym, ◌∙◌, subst, arith, inl, inr}
+use Rattle.std.proofs.Common.{◌≡◌, ℕ, ◌+◌, ◌-◌, ◌≤◌, ◌<◌, Bool, true, false, List, length, take, refl, ap, sym, ◌∙◌, subst, arith, inl, inr}
 use Rattle.std.specs.Prelude.{Some, None, ◌==◌, ◌&&◌, nat_lt}
 use Rattle.std.specs.declared.option.Option.{Option}
 use Rattle.std.proofs.lemmas.Bool.{cases_lt, lt-ltb, eq-eqb, eqb-true}
@@ -13,7 +13,7 @@ use Rattle.isdbt_base.proofs.PlanEpochs.{epoch_start-le}
 use Rattle.isdbt_base.proofs.EpochLaws.{IsBefore, at_other, epoch_frame, epoch_end}
 use Rattle.edge_io.specs.Known.{append_known}
 use Rattle.coder_core.specs.declared.coder.Coder.{Coder}
-use Rattle.coder_core.specs.InputFrames.{first_head, packet_in, frame_at, input_frames}
+use Rattle.coder_core.specs.InputFrames.{first_head, packet_in, input_frames}
 use Rattle.coder_core.specs.SentCells.{epoch_frame_cells, plan_word}
 use Rattle.coder_core.specs.CodeRefusals.{coded_frame}
 use Rattle.coder_core.specs.Coder.{mode_of, guard_of, setting_of, IsFrameOf, StandsFor}

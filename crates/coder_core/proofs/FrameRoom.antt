@@ -1,5 +1,5 @@
 -- The buffers of a coding have room for each frame of the plan.
-use Rattle.std.proofs.Common.{◌≡◌, ℕ, ◌+◌, ◌*◌, ◌≤◌, vec_len, arith}
+use Rattle.std.proofs.Common.{ℕ, ◌*◌, ◌≤◌, vec_len, arith}
 use Rattle.isdbt_base.specs.Numbers.{carriers, slots_per_frame}
 use Rattle.isdbt_base.specs.Plans.{Schedule, at_frame, greatest_of}
 use Rattle.isdbt_base.proofs.EpochLaws.{greatest-covers}

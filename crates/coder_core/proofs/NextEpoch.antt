@@ -1,7 +1,7 @@
 -- The setting of the epoch after that of a frame.
-use Rattle.std.proofs.Common.{◌≡◌, ℕ, ◌-◌, ◌≤◌, ◌<◌, refl, arith, inl, inr, Some, None, Option, List, [], ◌∷◌}
+use Rattle.std.proofs.Common.{ℕ, inl, inr, List, [], ◌∷◌}
 use Rattle.std.proofs.lemmas.Bool.{cases_lt}
-use Rattle.isdbt_base.specs.Parameters.{Parameters, IsAccepted}
+use Rattle.isdbt_base.specs.Parameters.{Parameters}
 use Rattle.isdbt_base.specs.Plans.{Transmission, Schedule, Switch, at_frame, at_from, IsPlan, RisesFrom}
 use Rattle.isdbt_base.proofs.PlanEpochs.{at_from-after, at_from-before}
 use Rattle.tmcc_word.specs.Fields.{IsAcceptedIfAny}

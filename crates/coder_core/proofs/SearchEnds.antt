@@ -1,5 +1,5 @@
 -- What the end of the search for the first frame head says of the command.
-use Rattle.std.proofs.Common.{◌≡◌, ℕ, zero, suc, ◌+◌, ◌-◌, ◌*◌, ◌≤◌, ◌<◌, false, List, [], length, drop, refl, ap, ◌∙◌, arith}
+use Rattle.std.proofs.Common.{◌≡◌, ℕ, zero, suc, ◌*◌, ◌≤◌, ◌<◌, false, List, [], length, drop, refl, ap, ◌∙◌, arith}
 use Rattle.std.specs.Prelude.{Some, None, Err}
 use Rattle.std.specs.declared.option.Option.{Option}
 use Rattle.isdbt_base.specs.Plans.{Schedule}
@@ -7,7 +7,7 @@ use Rattle.edge_io.specs.declared.shelf.Seat.{Seat}
 use Rattle.edge_io.specs.FrameAnswers.{FaultKind, frame_refused, read_failed, write_failed, no_memory, Refused, ReadFailed, TookAtMost, Stopped, Finished, lone_account, FaultAnswer, LoneAnswer}
 use Rattle.edge_io.proofs.FrameAnswers.{wrote-none, passed-none, ended-refused}
 use Rattle.coder_core.specs.declared.fault.CodeFault.{CodeFault}
-use Rattle.coder_core.specs.InputFrames.{first_head, frame_start}
+use Rattle.coder_core.specs.InputFrames.{first_head}
 use Rattle.coder_core.specs.CodeRefusals.{packet_refusal, search_refusal, code_refusal, is_there, code_starts}
 use Rattle.coder_core.specs.Answers.{code_kind, code_command, StoppedInSearch, SearchRefused, SearchFault, SearchAnswer}
 use Rattle.coder_core.proofs.FrameStarts.{slots-some, start-zero, start-more, start-later}

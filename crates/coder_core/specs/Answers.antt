@@ -5,10 +5,9 @@ use Rattle.std.specs.declared.result.Result.{Result}
 use Rattle.isdbt_base.specs.Plans.{Schedule}
 use Rattle.isdbt_base.specs.Epochs.{begins_later}
 use Rattle.ts_packet.specs.Packets.{piece}
-use Rattle.edge_io.specs.declared.shelf.Seat.TheVariants as seats
 use Rattle.edge_io.specs.FrameAnswers.{FaultKind, frame_refused, read_failed, write_failed, no_memory, LoneCommand}
 use Rattle.coder_core.specs.declared.fault.CodeFault.{CodeFault}
-use Rattle.coder_core.specs.declared.fault.CodeFault.TheVariants.{ReadFault, WriteFault, TooLong, NoMemory}
+use Rattle.coder_core.specs.declared.fault.CodeFault.TheVariants.{ReadFault, WriteFault, NoMemory}
 use Rattle.coder_core.specs.InputFrames.{first_head, bears_head}
 use Rattle.coder_core.specs.CodeRefusals.{search_limit, packet_refusal, search_refusal, search_end, code_refusal, is_there, code_starts, coded_frame}
 

@@ -1,8 +1,8 @@
-use Rattle.std.proofs.Common.{◌≡◌, ℕ, List, Bool, ◌+◌, ◌*◌, ◌≤◌, ◌<◌, true, false, [], length, take, drop, vec_items, Ok, Option, refl, sym, ap, subst, ◌∙◌, arith}
+use Rattle.std.proofs.Common.{◌≡◌, Bool, ◌+◌, true, false, drop, vec_items, Ok, refl, ap, subst, ◌∙◌, arith}
 use Rattle.edge_io.specs.declared.shelf.Seat.TheVariants as seats
 use Rattle.edge_io.specs.Reading.{EndsAnswer}
 use Rattle.coder_core.specs.InputFrames.{frame_start}
-use Rattle.coder_core.specs.FrameSteps.{Progress, FrameAnswer}
+use Rattle.coder_core.specs.FrameSteps.{FrameAnswer}
 use Rattle.coder_core.proofs.FrameStarts.{packets_before-zero, packets_before-next}
 use Rattle.coder_core.proofs.CodeProgress.{begin, ended_at_limit, too_long, stopped_at_limit}
 use Rattle.coder_core.proofs.coding.code_frames.Goals as goal

@@ -1,4 +1,4 @@
-use Rattle.std.proofs.Common.{◌≡◌, ◌+◌, ◌≤◌, ℕ, List, Ok, Some, None, Option, ◌++◌, length, take, drop, vec_len, sym, ap, ◌∙◌, subst, arith}
+use Rattle.std.proofs.Common.{◌≡◌, ℕ, List, Ok, Some, None, Option, ◌++◌, length, take, drop, vec_len, sym, ap, ◌∙◌, subst, arith}
 use Rattle.std.proofs.lemmas.List.{take_at}
 use Rattle.edge_io.specs.declared.shelf.Seat.TheVariants as seats
 use Rattle.coder_core.specs.Answers.{SearchAnswer}

@@ -1,4 +1,4 @@
-use Rattle.std.proofs.Common.{◌≡◌, ℕ, List, Bool, ◌+◌, ◌-◌, ◌*◌, ◌≤◌, ◌<◌, true, false, ◌++◌, length, take, drop, vec_items, vec_len, Ok, Option, sym, ap, subst, ◌∙◌, arith, inr}
+use Rattle.std.proofs.Common.{◌≡◌, ℕ, List, Bool, ◌+◌, ◌-◌, ◌*◌, true, ◌++◌, length, take, drop, vec_len, Ok, sym, ap, subst, ◌∙◌, arith, inr}
 use Rattle.std.proofs.lemmas.List.{length-take-le, take_at}
 use Rattle.isdbt_base.specs.Numbers.{slots_per_frame}
 use Rattle.isdbt_base.specs.Plans.{at_frame}

@@ -1,4 +1,4 @@
-use Rattle.std.proofs.Common.{◌≡◌, ℕ, Bool, ◌≤◌, ◌∙◌, true, false, refl, sym, ap, arith}
+use Rattle.std.proofs.Common.{◌≡◌, ◌∙◌, true, sym, arith}
 use Rattle.isdbt_base.specs.Plans.{at_frame}
 use Rattle.isdbt_base.specs.Epochs.{begins_later}
 use Rattle.coder_core.proofs.EpochSteps.{begun-start, stands-fresh}
