@@ -6,17 +6,17 @@ use std::alloc::Global;
 use std::process::Abort;
 use std::test::Fail;
 
-/// Words, the packets of layer A's input, and the frames and the bytes that are written.
+/// Words, the bytes of layer A's input, and the frames and the bytes that are written.
 struct SwitchedRun {
     words: &'static [&'static str],
-    packets: usize,
+    len: usize,
     frames: u32,
     written: usize,
 }
 
-/// Runs the words over a row's packets, and checks what is written.
+/// Runs the words over a row's bytes of packets, and checks what is written.
 fn check_run(rt: &impl Abort, alloc: Global, row: &SwitchedRun) -> Result<(), Fail> {
-    let a = marked_packets(alloc, 188 * row.packets, 0xAA)?;
+    let a = marked_packets(alloc, row.len, 0xAA)?;
     let ran = run_over(alloc, row.words, &a, &[], &WELL)?;
     match ran.outcome {
         Outcome::Done(frames) => assert_eq!(rt; frames, row.frames),
@@ -39,7 +39,7 @@ const RUNS: [SwitchedRun; 3] = [
             "A:13:qpsk:3/4:4",
             "A=a",
         ],
-        packets: 3000,
+        len: 3000 * 188,
         frames: 25,
         written: 25 * 261_120,
     },
@@ -55,7 +55,7 @@ const RUNS: [SwitchedRun; 3] = [
             "A:13:qpsk:1/2:0",
             "A=a",
         ],
-        packets: 400,
+        len: 400 * 188,
         frames: 7,
         written: 4 * 261_120 + 3 * 470_016,
     },
@@ -73,7 +73,7 @@ const RUNS: [SwitchedRun; 3] = [
             "A:13:qpsk:3/4:8",
             "A=a",
         ],
-        packets: 0,
+        len: 0,
         frames: 3,
         written: 2 * 261_120 + 470_016,
     },
