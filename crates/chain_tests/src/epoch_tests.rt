@@ -12,12 +12,18 @@ use std::process::Abort;
 use std::test::Fail;
 use tmcc_word::{TmccInfo, read_word};
 
+/// Whether a slot has a packet of this layer indicator that is no null packet.
+fn is_placed(slot: &[u8], indicator: u8) -> bool {
+    let layer = slot.get(189).map(|byte| *byte / 16);
+    layer == Some(indicator) && !is_null_packet(slot)
+}
+
 /// The packets of a frame with this layer indicator that are no null packets.
 fn placed_packets(alloc: Global, frame: &[u8], indicator: u8) -> Result<Vec<u8>, Fail> {
     let mut bytes = Vec::new(alloc);
     for slot in frame.chunks_exact(204) {
-        if slot[189] / 16 == indicator && !is_null_packet(slot) {
-            bytes.extend_from_slice(&slot[..188])?;
+        if is_placed(slot, indicator) {
+            bytes.extend_from_slice(slot.get(..188).unwrap_or(&[]))?;
         }
     }
     Ok(bytes)
@@ -31,7 +37,7 @@ fn add_placed(
     placed: &[usize; 3],
     found: &mut [Vec<u8>; 3],
 ) -> Result<(), Fail> {
-    for ((packets, count), indicator) in found.iter_mut().zip(placed).zip(1..) {
+    for ((packets, count), indicator) in found.iter_mut().zip(placed).zip([1, 2, 3]) {
         let more = placed_packets(alloc, frame, indicator)?;
         check_count(rt, more.len() / 188, *count);
         packets.extend_from_slice(&more)?;
@@ -83,8 +89,8 @@ fn epochs_of_remux(rt: HostRuntime) -> Result<(), Fail> {
         let out = MemorySink::new(alloc, ROOM)?;
         let ended = remux_plan(alloc, &plan, &inputs, 1000, out)?;
         let frames = check_frames(&rt, alloc, ended.out.bytes(), row.frames, inputs.layers)?;
-        check(&rt, ended.answer == Ok(frames as u32));
         check_count(&rt, ended.left, 0);
+        check_count(&rt, ended.answer? as usize, frames);
     }
     Ok(())
 }

@@ -180,17 +180,15 @@ fn compare_over_a_switch(
     let front = stream_of(alloc, first)?;
     let back = stream_of(alloc, second)?;
     let switch = SwitchRow {
-        frame: first.frames as u32,
+        frame: u32::try_from(first.frames)?,
         to: second.plan,
     };
     let plan = plan_with(&first.plan, &[switch])?;
     let mut stream = front.as_slice().to_vec(alloc)?;
     stream.extend_from_slice(&back)?;
     let ended = code_plan(alloc, &plan, &stream, MemorySink::new(alloc, ROOM)?)?;
-    check(
-        rt,
-        ended.answer == Ok(first.frames.wrapping_add(second.frames) as u32),
-    );
+    let frames = ended.answer? as usize;
+    check(rt, frames == first.frames.wrapping_add(second.frames));
     let Some((before, behind)) = ended.out.bytes().split_at_checked(size_of(first)) else {
         return Err(Fail::from("too few cells"));
     };
