@@ -29,9 +29,10 @@ impl Model for LayerSetting {
 /// All 13 segments with QPSK at rate 1/2, and no time interleaving.
 impl Default for LayerSetting {
     ghost use Rattle.std.specs.Prelude.{◌≡◌};
+    ghost use Rattle.isdbt_base.specs.LayerParameters.{default_layer};
 
     fn default() -> LayerSetting
-        ensures { result.segments ≡ 13 }
+        ensures { result ≡ default_layer }
     {
         LayerSetting {
             segments: 13,

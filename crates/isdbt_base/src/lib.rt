@@ -16,6 +16,7 @@ mod memory;
 mod numbers;
 mod plan;
 mod setting;
+mod stream;
 mod switch;
 
 pub use buffer::{put, zeros};
@@ -32,7 +33,10 @@ pub use numbers::{
 };
 pub use plan::Plan;
 pub use setting::{Setting, SettingFault};
+pub use stream::{Form, Reading, Writing};
 
+#[cfg(test)]
+mod head_tests;
 #[cfg(test)]
 mod plan_tests;
 #[cfg(test)]

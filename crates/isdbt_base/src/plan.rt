@@ -177,7 +177,7 @@ impl Plan {
             }
             now = *switch;
         }
-        now.to_the_end(frame)
+        now.to_the_end()
     }
 
     /// The slots of the plan's greatest frame.

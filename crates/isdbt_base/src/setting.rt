@@ -48,9 +48,14 @@ impl Model for Setting {
     ghost inverse = { λ p. record { partial = p.partial; a = p.a; b = p.b; c = p.c } };
 }
 
-/// One layer of 13 segments with the least of all bit rates.
+/// One layer of 13 segments with QPSK at rate 1/2 and no time interleaving, and no partial reception.
 impl Default for Setting {
-    fn default() -> Setting {
+    ghost use Rattle.std.specs.Prelude.{◌≡◌, false, None};
+    ghost use Rattle.isdbt_base.specs.LayerParameters.{default_layer};
+
+    fn default() -> Setting
+        ensures { result ≡ record { partial = false; a = default_layer; b = None; c = None } }
+    {
         Setting {
             partial: false,
             a: LayerSetting::default(),

@@ -63,11 +63,10 @@ impl Switch {
         }
     }
 
-    /// What holds at a frame from this switch on, where no other follows.
-    pub fn to_the_end(&self, frame: u32) -> At
-        ensures { result ≡ in_epoch self.now.after self.now.frame [] frame }
+    /// What holds at the frame of this switch and at each behind it, where no other follows.
+    pub fn to_the_end(&self) -> At
+        ensures { result ≡ in_epoch self.now.after self.now.frame [] self.now.frame }
     {
-        let _frame = frame;
         At {
             mode: self.after.mode,
             guard: self.after.guard,

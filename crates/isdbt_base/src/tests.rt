@@ -1,9 +1,9 @@
 //! Tables of the standard and worked settings.
 
 use crate::{
-    DepthCode, Guard, HeadFault, Layer, LayerSetting, Mode, Modulation, Rate, Setting,
-    SettingFault, adjust_of, bits_per_cell, carriers, depth_of, frames_over, head_of, put,
-    rate_pair, read_head, slots, symbol_clocks, symbol_size, zeros,
+    DepthCode, Guard, Layer, LayerSetting, Mode, Modulation, Rate, Setting,
+    SettingFault, adjust_of, bits_per_cell, carriers, depth_of, frames_over, put,
+    rate_pair, slots, symbol_clocks, symbol_size, zeros,
 };
 use std::test::Fail;
 
@@ -270,49 +270,4 @@ fn pieces_of_a_buffer(rt: HostRuntime) -> Result<(), Fail> {
     assert_eq!(rt; put(&mut bits, 0, &[true; 2]), 2);
     assert_eq!(rt; bits, [true, true, false]);
     Ok(())
-}
-
-/// A head that is refused, and the least of its bytes that is not allowed.
-#[derive(Clone, Copy)]
-struct RefusedHead {
-    head: [u8; 8],
-    byte: u8,
-}
-
-#[test]
-fn heads(rt: HostRuntime) {
-    let head = head_of(Mode::M1, Guard::G4);
-    assert_eq!(rt; head, [0x49, 0x53, 0x43, 0x32, 0x01, 0x04, 0x00, 0x00]);
-    assert_eq!(rt; read_head(&head), Ok((Mode::M1, Guard::G4)));
-    let last = [0x49, 0x53, 0x43, 0x32, 0x03, 0x20, 0xFF, 0x12];
-    assert_eq!(rt; read_head(&last), Ok((Mode::M3, Guard::G32)));
-    let rows = [
-        RefusedHead {
-            head: [0x00, 0x53, 0x43, 0x32, 0x01, 0x04, 0, 0],
-            byte: 0,
-        },
-        RefusedHead {
-            head: [0x49, 0x54, 0x42, 0x32, 0x01, 0x04, 0, 0],
-            byte: 1,
-        },
-        RefusedHead {
-            head: [0x49, 0x53, 0x63, 0x31, 0x01, 0x04, 0, 0],
-            byte: 2,
-        },
-        RefusedHead {
-            head: [0x49, 0x53, 0x43, 0x31, 0x00, 0x04, 0, 0],
-            byte: 3,
-        },
-        RefusedHead {
-            head: [0x49, 0x53, 0x43, 0x32, 0x04, 0x05, 0, 0],
-            byte: 4,
-        },
-        RefusedHead {
-            head: [0x49, 0x53, 0x43, 0x32, 0x02, 0x40, 0, 0],
-            byte: 5,
-        },
-    ];
-    for RefusedHead { head, byte } in rows {
-        assert_eq!(rt; read_head(&head), Err(HeadFault { byte }));
-    }
 }
