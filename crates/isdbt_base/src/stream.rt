@@ -13,10 +13,7 @@ pub struct Writing {
 #[derive(Clone, Copy, Debug, PartialEq, Eq)]
 pub enum Form {
     /// Version 1: frames without heads, all of this mode and guard interval.
-    V1 {
-        mode: Mode,
-        guard: Guard,
-    },
+    V1 { mode: Mode, guard: Guard },
     /// Version 2: each frame's head says its mode and guard interval.
     V2,
 }

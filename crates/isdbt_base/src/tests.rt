@@ -1,9 +1,9 @@
 //! Tables of the standard and worked settings.
 
 use crate::{
-    DepthCode, Guard, Layer, LayerSetting, Mode, Modulation, Rate, Setting,
-    SettingFault, adjust_of, bits_per_cell, carriers, depth_of, frames_over, put,
-    rate_pair, slots, symbol_clocks, symbol_size, zeros,
+    DepthCode, Guard, Layer, LayerSetting, Mode, Modulation, Rate, Setting, SettingFault,
+    adjust_of, bits_per_cell, carriers, depth_of, frames_over, put, rate_pair, slots,
+    symbol_clocks, symbol_size, zeros,
 };
 use std::test::Fail;
 
