@@ -25,6 +25,10 @@ mode_in n = if n == 0x01 then Some M1 else if n == 0x02 then Some M2 else if n =
 abbrev pub guard_in : ℕ → Option Guard
 guard_in n = if n == 0x04 then Some G4 else if n == 0x08 then Some G8 else if n == 0x10 then Some G16 else if n == 0x20 then Some G32 else None
 
+-- bytes of a head
+abbrev pub head_size : ℕ
+head_size = 8
+
 -- the head: four fixed bytes, mode, guard interval, and two bytes that are not read
 abbrev pub head_bytes : Mode → Guard → List ℕ
 head_bytes mode guard = 0x49 ∷ 0x53 ∷ 0x43 ∷ 0x32 ∷ mode_byte mode ∷ guard_byte guard ∷ 0 ∷ 0 ∷ []

@@ -5,6 +5,9 @@ ghost use Rattle.isdbt_base.specs.Heads.{mode_byte, guard_byte, mode_in, guard_i
 
 use crate::kinds::{Guard, Mode};
 
+/// Bytes of a head.
+pub const HEAD_BYTES: usize = 8;
+
 /// The least of the bytes 0 to 5 of a head that is not an allowed value.
 #[derive(Clone, Copy, Debug, PartialEq, Eq)]
 pub struct HeadFault {

@@ -22,7 +22,9 @@ mod switch;
 pub use buffer::{put, zeros};
 pub use epoch::At;
 pub use fault::PlanFault;
-pub use head::{HeadFault, guard_byte, guard_in, head_of, mode_byte, mode_in, read_head};
+pub use head::{
+    HEAD_BYTES, HeadFault, guard_byte, guard_in, head_of, mode_byte, mode_in, read_head,
+};
 pub use kinds::{DepthCode, Guard, Layer, Mode, Modulation, Rate};
 pub use layer_numbers::{cells_of, packets_of};
 pub use layer_setting::LayerSetting;
