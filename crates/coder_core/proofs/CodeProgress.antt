@@ -6,6 +6,7 @@ use Rattle.std.proofs.Math.Seq.{take-add}
 use Rattle.std.proofs.lemmas.Bool.{ne_eqb, eq-eqb, lt-ltb, le-ltb}
 use Rattle.std.proofs.lemmas.List.{drop_all, take_all, take-take}
 use Rattle.isdbt_base.specs.Outcome.{first_some}
+use Rattle.isdbt_base.specs.declared.stream.Writing.{Writing}
 use Rattle.isdbt_base.specs.Plans.{Schedule, at_frame}
 use Rattle.isdbt_base.specs.Epochs.{begins_later}
 use Rattle.edge_io.specs.declared.shelf.Seat.TheVariants as seats
@@ -25,34 +26,34 @@ use Rattle.coder_core.proofs.FoundHead.{first_some-one, refusal-found, there-fou
 use Rattle.coder_core.proofs.CodeStarts.{starts-found, starts-within, starts-next}
 
 -- so many frames were passed and written, and so many bytes of the next frame came
-pub record Turn (p : Schedule) (input : List ℕ) (limit head f count : ℕ) (frame : List ℕ) (left before now : Option (List ℕ)) : Type 0 where
+pub record Turn (how : Writing) (p : Schedule) (input : List ℕ) (limit head f count : ℕ) (frame : List ℕ) (left before now : Option (List ℕ)) : Type 0 where
   pub found : first_head input ≡ Some head
   pub searched : search_refusal input ≡ None
-  pub passed : Passed (code_command p input limit).frames f
-  pub written : Wrote (code_command p input limit).frames f before now
+  pub passed : Passed (code_command how p input limit).frames f
+  pub written : Wrote (code_command how p input limit).frames f before now
   pub count_is : count ≡ min (204 * slots_at p f) (length input - frame_start p head f)
   pub reached : frame_start p head f ≤ length input
   pub front : take count frame ≡ take count (drop (frame_start p head f) input)
   pub left_is : left ≡ Some (drop (frame_start p head f + count) input)
 
 -- before the first frame, with the head's packet
-pub begin : (p : Schedule) (input : List ℕ) (limit head : ℕ) (frame : List ℕ) (left before : Option (List ℕ)) → Found input head (take 204 frame) left → Progress p input limit head 0 204 frame left before before
-begin p input limit head frame left before f =
+pub begin : (how : Writing) (p : Schedule) (input : List ℕ) (limit head : ℕ) (frame : List ℕ) (left before : Option (List ℕ)) → Found input head (take 204 frame) left → Progress how p input limit head 0 204 frame left before before
+begin how p input limit head frame left before f =
     let start = start-zero p head in
     let past : frame_start p head 0 + 204 ≡ 204 * (head + 1) = omega (arith, start) in
     record {
       found = f.found;
       searched = f.searched;
-      passed = passed-none (code_command p input limit).frames;
-      written = wrote-none (code_command p input limit).frames before;
+      passed = passed-none (code_command how p input limit).frames;
+      written = wrote-none (code_command how p input limit).frames before;
       holds = f.packet_is ∙ ap (λ n. take 204 (drop n input)) (sym start);
       within = (let whole = f.whole in omega (arith, past, whole));
       left_is = f.left_is ∙ ap (λ n. Some (drop n input)) (sym past);
     }
 
 -- the bytes that are held stand in the front of the buffer
-pub held-front : (p : Schedule) (input : List ℕ) (limit head f held size : ℕ) (buffer : List ℕ) (left before now : Option (List ℕ)) → held ≤ size → Progress p input limit head f held buffer left before now → Progress p input limit head f held (take size buffer) left before now
-held-front p input limit head f held size buffer left before now fits so_far = record {
+pub held-front : (how : Writing) (p : Schedule) (input : List ℕ) (limit head f held size : ℕ) (buffer : List ℕ) (left before now : Option (List ℕ)) → held ≤ size → Progress how p input limit head f held buffer left before now → Progress how p input limit head f held (take size buffer) left before now
+held-front how p input limit head f held size buffer left before now fits so_far = record {
   found = so_far.found;
   searched = so_far.searched;
   passed = so_far.passed;
@@ -64,9 +65,9 @@ held-front p input limit head f held size buffer left before now fits so_far = r
 
 -- ---- a frame more
 
-pub turn : (p : Schedule) (input : List ℕ) (limit head f held n : ℕ) (old new : List ℕ) (left left' before now : Option (List ℕ)) → length new ≡ 204 * slots_at p f → held ≤ length new
-    → Progress p input limit head f held old left before now → FilledTo held old new (drop (frame_start p head f + held) input) left' n → Turn p input limit head f n new left' before now
-turn p input limit head f held n old new left left' before now size fits so_far filled =
+pub turn : (how : Writing) (p : Schedule) (input : List ℕ) (limit head f held n : ℕ) (old new : List ℕ) (left left' before now : Option (List ℕ)) → length new ≡ 204 * slots_at p f → held ≤ length new
+    → Progress how p input limit head f held old left before now → FilledTo held old new (drop (frame_start p head f + held) input) left' n → Turn how p input limit head f n new left' before now
+turn how p input limit head f held n old new left left' before now size fits so_far filled =
     let s = frame_start p head f in
     let rest = length-drop (s + held) input in
     let within : s + held ≤ length input = so_far.within in
@@ -96,28 +97,28 @@ refusal-none : (p : Schedule) (input : List ℕ) (limit head f : ℕ) → has_by
 refusal-none p input limit head f none = rw none refl
 
 -- the input ends at a frame
-finished : (p : Schedule) (input : List ℕ) (limit head f : ℕ) (left before now : Option (List ℕ)) → first_head input ≡ Some head → search_refusal input ≡ None → Passed (code_command p input limit).frames f → Wrote (code_command p input limit).frames f before now
-    → length input ≤ frame_start p head f → left ≡ Some [] → Finished (code_command p input limit) f before now left
-finished p input limit head f left before now found searched passed written le none =
+finished : (how : Writing) (p : Schedule) (input : List ℕ) (limit head f : ℕ) (left before now : Option (List ℕ)) → first_head input ≡ Some head → search_refusal input ≡ None → Passed (code_command how p input limit).frames f → Wrote (code_command how p input limit).frames f before now
+    → length input ≤ frame_start p head f → left ≡ Some [] → Finished (code_command how p input limit) f before now left
+finished how p input limit head f left before now found searched passed written le none =
     let gone = not_there p input head f le in
     record {
-      ended = ended-done (code_command p input limit).frames f before now passed written (refusal-found p input limit head f found searched ∙ refusal-none p input limit head f gone) (there-found p input head f found ∙ gone);
+      ended = ended-done (code_command how p input limit).frames f before now passed written (refusal-found p input limit head f found searched ∙ refusal-none p input limit head f gone) (there-found p input head f found ∙ gone);
       left_is = none;
     }
 
-pub nothing_came : (p : Schedule) (input : List ℕ) (limit head f count : ℕ) (frame : List ℕ) (left before now : Option (List ℕ)) → count ≡ 0 → Turn p input limit head f count frame left before now → Finished (code_command p input limit) f before now left
-nothing_came p input limit head f count frame left before now none t =
+pub nothing_came : (how : Writing) (p : Schedule) (input : List ℕ) (limit head f count : ℕ) (frame : List ℕ) (left before now : Option (List ℕ)) → count ≡ 0 → Turn how p input limit head f count frame left before now → Finished (code_command how p input limit) f before now left
+nothing_came how p input limit head f count frame left before now none t =
     let counted = t.count_is in
     let some = slots-some p f in
     let le : length input ≤ frame_start p head f = omega (arith, counted, none, some) in
-    finished p input limit head f left before now t.found t.searched t.passed t.written le (t.left_is ∙ ap Some (drop_all (frame_start p head f + count) input (omega (arith, le, none))))
+    finished how p input limit head f left before now t.found t.searched t.passed t.written le (t.left_is ∙ ap Some (drop_all (frame_start p head f + count) input (omega (arith, le, none))))
 
 -- frame f is refused so, and so many bytes were taken
-refused : (p : Schedule) (input : List ℕ) (limit head f taken : ℕ) (fault : CodeFault) (left before now : Option (List ℕ)) → first_head input ≡ Some head → search_refusal input ≡ None → Passed (code_command p input limit).frames f → Wrote (code_command p input limit).frames f before now
-    → frame_refusal p input limit head f ≡ Some fault → left ≡ Some (drop taken input) → taken ≤ frame_start p head (f + 1) → Refused (code_command p input limit).frames (TookAtMost (code_command p input limit) left) fault before now
-refused p input limit head f taken fault left before now found searched passed written why left_is most = record {
+refused : (how : Writing) (p : Schedule) (input : List ℕ) (limit head f taken : ℕ) (fault : CodeFault) (left before now : Option (List ℕ)) → first_head input ≡ Some head → search_refusal input ≡ None → Passed (code_command how p input limit).frames f → Wrote (code_command how p input limit).frames f before now
+    → frame_refusal p input limit head f ≡ Some fault → left ≡ Some (drop taken input) → taken ≤ frame_start p head (f + 1) → Refused (code_command how p input limit).frames (TookAtMost (code_command how p input limit) left) fault before now
+refused how p input limit head f taken fault left before now found searched passed written why left_is most = record {
   frame = f;
-  ended = ended-refused (code_command p input limit).frames f fault before now passed written (refusal-found p input limit head f found searched ∙ why);
+  ended = ended-refused (code_command how p input limit).frames f fault before now passed written (refusal-found p input limit head f found searched ∙ why);
   account = record { taken = taken; left_is = left_is; most = (let e = starts-next p input head f found searched in omega (arith, e, most)) };
 }
 
@@ -135,52 +136,52 @@ second a b c x none is = rw (none, is) refl
 not_at_limit : (f limit : ℕ) → f < limit → (if f == limit then Some TooLong else None) ≡ None
 not_at_limit f limit less = rw (ne_eqb f limit (λ e. omega (arith, e, less))) refl
 
-pub cut_off : (p : Schedule) (input : List ℕ) (limit head f count : ℕ) (frame : List ℕ) (left before now : Option (List ℕ)) → f < limit → 0 < count → count < 204 * slots_at p f → Turn p input limit head f count frame left before now
-    → Refused (code_command p input limit).frames (TookAtMost (code_command p input limit) left) (Truncated seats.In count) before now
-cut_off p input limit head f count frame left before now less some short t =
+pub cut_off : (how : Writing) (p : Schedule) (input : List ℕ) (limit head f count : ℕ) (frame : List ℕ) (left before now : Option (List ℕ)) → f < limit → 0 < count → count < 204 * slots_at p f → Turn how p input limit head f count frame left before now
+    → Refused (code_command how p input limit).frames (TookAtMost (code_command how p input limit) left) (Truncated seats.In count) before now
+cut_off how p input limit head f count frame left before now less some short t =
     let counted = t.count_is in
     let over : length input - frame_start p head f ≡ count = omega (arith, counted, short) in
     let cut : truncated p input head f ≡ Some (Truncated seats.In count) = rw (lt-ltb (length input) (frame_start p head f + 204 * slots_at p f) (omega (arith, over, short))) (ap (λ n. Some (Truncated seats.In n)) over) in
     let more = start-more p head f in
-    refused p input limit head f (frame_start p head f + count) (Truncated seats.In count) left before now t.found t.searched t.passed t.written
+    refused how p input limit head f (frame_start p head f + count) (Truncated seats.In count) left before now t.found t.searched t.passed t.written
     (refusal-parts p input limit head f (there p input head f (omega (arith, over, some))) ∙ second _ _ _ _ (not_at_limit f limit less) cut)
     t.left_is (omega (arith, more, short))
 
 -- ---- the frame is whole
 
 -- the buffer is the frame
-whole_frame : (p : Schedule) (input : List ℕ) (limit head f count : ℕ) (frame : List ℕ) (left before now : Option (List ℕ)) → length frame ≡ 204 * slots_at p f → length frame ≤ count → Turn p input limit head f count frame left before now
+whole_frame : (how : Writing) (p : Schedule) (input : List ℕ) (limit head f count : ℕ) (frame : List ℕ) (left before now : Option (List ℕ)) → length frame ≡ 204 * slots_at p f → length frame ≤ count → Turn how p input limit head f count frame left before now
     → frame ≡ frame_at p input head f
-whole_frame p input limit head f count frame left before now size full t =
+whole_frame how p input limit head f count frame left before now size full t =
     let counted = t.count_is in
     let all : count ≡ 204 * slots_at p f = omega (arith, counted, size, full) in
     sym (take_all count frame full) ∙ t.front ∙ ap (λ n. take n (drop (frame_start p head f) input)) all
 
 -- why a whole frame is refused
-refusal-whole : (p : Schedule) (input : List ℕ) (limit head f count : ℕ) (frame : List ℕ) (left before now : Option (List ℕ)) → f < limit → length frame ≡ 204 * slots_at p f → length frame ≤ count → Turn p input limit head f count frame left before now
+refusal-whole : (how : Writing) (p : Schedule) (input : List ℕ) (limit head f count : ℕ) (frame : List ℕ) (left before now : Option (List ℕ)) → f < limit → length frame ≡ 204 * slots_at p f → length frame ≤ count → Turn how p input limit head f count frame left before now
     → frame_refusal p input limit head f ≡ refusal (at_frame p f).setting (at_frame p f).mode f (head + packets_before p f) frame
-refusal-whole p input limit head f count frame left before now less size full t =
+refusal-whole how p input limit head f count frame left before now less size full t =
     let counted = t.count_is in
     let some = slots-some p f in
     let reached = t.reached in
-    let is = whole_frame p input limit head f count frame left before now size full t in
+    let is = whole_frame how p input limit head f count frame left before now size full t in
     let uncut : truncated p input head f ≡ None = rw (le-ltb (length input) (frame_start p head f + 204 * slots_at p f) (omega (arith, counted, size, full, reached))) refl in
     refusal-parts p input limit head f (there p input head f (omega (arith, counted, size, full, some))) ∙ third _ _ _ (not_at_limit f limit less) uncut
     ∙ ap (λ xs. refusal (at_frame p f).setting (at_frame p f).mode f (head + packets_before p f) xs) (sym is)
 
-pub frame_refused : (p : Schedule) (input : List ℕ) (limit head f count first : ℕ) (fault : CodeFault) (frame : List ℕ) (left before now : Option (List ℕ)) → f < limit → first ≡ head + packets_before p f → length frame ≡ 204 * slots_at p f → length frame ≤ count
-    → Turn p input limit head f count frame left before now → refusal (at_frame p f).setting (at_frame p f).mode f first frame ≡ Some fault → Refused (code_command p input limit).frames (TookAtMost (code_command p input limit) left) fault before now
-frame_refused p input limit head f count first fault frame left before now less place size full t why =
+pub frame_refused : (how : Writing) (p : Schedule) (input : List ℕ) (limit head f count first : ℕ) (fault : CodeFault) (frame : List ℕ) (left before now : Option (List ℕ)) → f < limit → first ≡ head + packets_before p f → length frame ≡ 204 * slots_at p f → length frame ≤ count
+    → Turn how p input limit head f count frame left before now → refusal (at_frame p f).setting (at_frame p f).mode f first frame ≡ Some fault → Refused (code_command how p input limit).frames (TookAtMost (code_command how p input limit) left) fault before now
+frame_refused how p input limit head f count first fault frame left before now less place size full t why =
     let more = start-more p head f in
     let counted = t.count_is in
-    refused p input limit head f (frame_start p head f + count) fault left before now t.found t.searched t.passed t.written
-    (refusal-whole p input limit head f count frame left before now less size full t ∙ ap (λ n. refusal (at_frame p f).setting (at_frame p f).mode f n frame) (sym place) ∙ why)
+    refused how p input limit head f (frame_start p head f + count) fault left before now t.found t.searched t.passed t.written
+    (refusal-whole how p input limit head f count frame left before now less size full t ∙ ap (λ n. refusal (at_frame p f).setting (at_frame p f).mode f n frame) (sym place) ∙ why)
     t.left_is (omega (arith, more, counted))
 
 -- a whole frame that is not refused is passed
-pub taken : (p : Schedule) (input : List ℕ) (limit head f count first : ℕ) (frame : List ℕ) (left before now : Option (List ℕ)) → f < limit → first ≡ head + packets_before p f → length frame ≡ 204 * slots_at p f → length frame ≤ count
-    → Turn p input limit head f count frame left before now → refusal (at_frame p f).setting (at_frame p f).mode f first frame ≡ None → Taken p input limit head f frame left before now
-taken p input limit head f count first frame left before now less place size full t fine =
+pub taken : (how : Writing) (p : Schedule) (input : List ℕ) (limit head f count first : ℕ) (frame : List ℕ) (left before now : Option (List ℕ)) → f < limit → first ≡ head + packets_before p f → length frame ≡ 204 * slots_at p f → length frame ≤ count
+    → Turn how p input limit head f count frame left before now → refusal (at_frame p f).setting (at_frame p f).mode f first frame ≡ None → Taken how p input limit head f frame left before now
+taken how p input limit head f count first frame left before now less place size full t fine =
     let counted = t.count_is in
     let some = slots-some p f in
     let reached = t.reached in
@@ -189,62 +190,62 @@ taken p input limit head f count first frame left before now less place size ful
     record {
       found = t.found;
       searched = t.searched;
-      passed = passed-more (code_command p input limit).frames f t.passed
-          (refusal-found p input limit head f t.found t.searched ∙ refusal-whole p input limit head f count frame left before now less size full t ∙ ap (λ n. refusal (at_frame p f).setting (at_frame p f).mode f n frame) (sym place) ∙ fine)
+      passed = passed-more (code_command how p input limit).frames f t.passed
+          (refusal-found p input limit head f t.found t.searched ∙ refusal-whole how p input limit head f count frame left before now less size full t ∙ ap (λ n. refusal (at_frame p f).setting (at_frame p f).mode f n frame) (sym place) ∙ fine)
           (there-found p input head f t.found ∙ there p input head f (omega (arith, counted, size, full, some)));
       written = t.written;
-      frame_is = whole_frame p input limit head f count frame left before now size full t;
+      frame_is = whole_frame how p input limit head f count frame left before now size full t;
       within = omega (arith, all, counted, size, full, reached);
       left_is = t.left_is ∙ ap (λ n. Some (drop n input)) all;
     }
 
 -- ---- behind a frame that was taken
 
-pub next : (p : Schedule) (input : List ℕ) (limit head f : ℕ) (frame other : List ℕ) (left before mid after : Option (List ℕ)) → Taken p input limit head f frame left before mid
-    → after ≡ append_known mid (coded_frame p input f) → Progress p input limit head (f + 1) 0 other left before after
-next p input limit head f frame other left before mid after t wrote =
+pub next : (how : Writing) (p : Schedule) (input : List ℕ) (limit head f : ℕ) (frame other : List ℕ) (left before mid after : Option (List ℕ)) → Taken how p input limit head f frame left before mid
+    → after ≡ append_known mid (coded_frame how p input f) → Progress how p input limit head (f + 1) 0 other left before after
+next how p input limit head f frame other left before mid after t wrote =
     let none : frame_start p head (f + 1) + 0 ≡ frame_start p head (f + 1) = omega arith in
     record {
       found = t.found;
       searched = t.searched;
       passed = t.passed;
-      written = wrote-more (code_command p input limit).frames f before mid after t.written wrote;
+      written = wrote-more (code_command how p input limit).frames f before mid after t.written wrote;
       holds = refl;
       within = (let within = t.within in omega (arith, none, within));
       left_is = t.left_is ∙ ap (λ n. Some (drop n input)) (sym none);
     }
 
 -- all bytes up to the end of the frame were taken
-took : (p : Schedule) (input : List ℕ) (limit head f : ℕ) (frame : List ℕ) (left before now : Option (List ℕ)) → Taken p input limit head f frame left before now → Took (code_command p input limit) left (f + 1)
-took p input limit head f frame left before now t = t.left_is ∙ ap (λ n. Some (drop n input)) (sym (starts-next p input head f t.found t.searched))
+took : (how : Writing) (p : Schedule) (input : List ℕ) (limit head f : ℕ) (frame : List ℕ) (left before now : Option (List ℕ)) → Taken how p input limit head f frame left before now → Took (code_command how p input limit) left (f + 1)
+took how p input limit head f frame left before now t = t.left_is ∙ ap (λ n. Some (drop n input)) (sym (starts-next p input head f t.found t.searched))
 
-pub write_failed : (p : Schedule) (input : List ℕ) (limit head f n : ℕ) (frame : List ℕ) (left before mid after : Option (List ℕ)) → Taken p input limit head f frame left before mid
-    → n < length (coded_frame p input f) → after ≡ append_known mid (take n (coded_frame p input f)) → WriteFailed (code_command p input limit).frames (Took (code_command p input limit) left) before after
-write_failed p input limit head f n frame left before mid after t short wrote = record {
+pub write_failed : (how : Writing) (p : Schedule) (input : List ℕ) (limit head f n : ℕ) (frame : List ℕ) (left before mid after : Option (List ℕ)) → Taken how p input limit head f frame left before mid
+    → n < length (coded_frame how p input f) → after ≡ append_known mid (take n (coded_frame how p input f)) → WriteFailed (code_command how p input limit).frames (Took (code_command how p input limit) left) before after
+write_failed how p input limit head f n frame left before mid after t short wrote = record {
   frame = f;
   sent = n;
   passed = t.passed;
   short = short;
-  written = wrote_part (code_command p input limit).frames f n before mid after t.written wrote;
-  account = took p input limit head f frame left before mid t;
+  written = wrote_part (code_command how p input limit).frames f n before mid after t.written wrote;
+  account = took how p input limit head f frame left before mid t;
 }
 
 -- an epoch opens with the frame, and there is no memory for its coder
-pub wants_memory : (p : Schedule) (input : List ℕ) (limit head f : ℕ) (frame : List ℕ) (left before now : Option (List ℕ)) → begins_later p f ≡ true → Taken p input limit head f frame left before now
-    → WantsMemory (code_command p input limit).frames (Took (code_command p input limit) left) before now
-wants_memory p input limit head f frame left before now opens t = record {
+pub wants_memory : (how : Writing) (p : Schedule) (input : List ℕ) (limit head f : ℕ) (frame : List ℕ) (left before now : Option (List ℕ)) → begins_later p f ≡ true → Taken how p input limit head f frame left before now
+    → WantsMemory (code_command how p input limit).frames (Took (code_command how p input limit) left) before now
+wants_memory how p input limit head f frame left before now opens t = record {
   frame = f;
   opens = opens;
   passed = t.passed;
   written = t.written;
-  account = took p input limit head f frame left before now t;
+  account = took how p input limit head f frame left before now t;
 }
 
 -- ---- a read failed
 
-pub read_failed : (p : Schedule) (input : List ℕ) (limit head f held : ℕ) (old new : List ℕ) (left left' before now : Option (List ℕ)) → f < limit → length new ≡ 204 * slots_at p f
-    → Progress p input limit head f held old left before now → StoppedBelow held new (drop (frame_start p head f + held) input) left' → ReadFailed (code_command p input limit).frames (λ g seat. Stopped (code_command p input limit) left' g) seats.In before now
-read_failed p input limit head f held old new left left' before now less size so_far stop =
+pub read_failed : (how : Writing) (p : Schedule) (input : List ℕ) (limit head f held : ℕ) (old new : List ℕ) (left left' before now : Option (List ℕ)) → f < limit → length new ≡ 204 * slots_at p f
+    → Progress how p input limit head f held old left before now → StoppedBelow held new (drop (frame_start p head f + held) input) left' → ReadFailed (code_command how p input limit).frames (λ g seat. Stopped (code_command how p input limit) left' g) seats.In before now
+read_failed how p input limit head f held old new left left' before now less size so_far stop =
     let below = stop.below in
     let more = start-more p head f in
     let rises = start-later p head (f + 1) limit (omega (arith, less)) in
@@ -271,27 +272,27 @@ at_limit limit = rw (eq-eqb limit limit refl) refl
 first-of : (a b c : Option CodeFault) (x : CodeFault) → a ≡ Some x → first_some (a ∷ b ∷ c ∷ []) ≡ Some x
 first-of a b c x is = rw is refl
 
-pub ended_at_limit : (p : Schedule) (input : List ℕ) (limit head held m : ℕ) (frame : List ℕ) (left left' before now : Option (List ℕ)) → held ≡ 0 → Progress p input limit head limit held frame left before now
-    → m ≡ limit → drop (frame_start p head limit + held) input ≡ [] → left' ≡ Some [] → Finished (code_command p input limit) m before now left'
-ended_at_limit p input limit head held m frame left left' before now none so_far is empty gone =
+pub ended_at_limit : (how : Writing) (p : Schedule) (input : List ℕ) (limit head held m : ℕ) (frame : List ℕ) (left left' before now : Option (List ℕ)) → held ≡ 0 → Progress how p input limit head limit held frame left before now
+    → m ≡ limit → drop (frame_start p head limit + held) input ≡ [] → left' ≡ Some [] → Finished (code_command how p input limit) m before now left'
+ended_at_limit how p input limit head held m frame left left' before now none so_far is empty gone =
     let size = length-drop (frame_start p head limit + held) input in
     let nothing : length (drop (frame_start p head limit + held) input) ≡ 0 = ap length empty in
-    subst (λ k. Finished (code_command p input limit) k before now left') (sym is)
-    (finished p input limit head limit left' before now so_far.found so_far.searched so_far.passed so_far.written (omega (arith, size, nothing, none)) gone)
+    subst (λ k. Finished (code_command how p input limit) k before now left') (sym is)
+    (finished how p input limit head limit left' before now so_far.found so_far.searched so_far.passed so_far.written (omega (arith, size, nothing, none)) gone)
 
-pub too_long : (p : Schedule) (input : List ℕ) (limit head held : ℕ) (frame : List ℕ) (left left' before now : Option (List ℕ)) → held ≡ 0 → Progress p input limit head limit held frame left before now
-    → 0 < length (drop (frame_start p head limit + held) input) → left' ≡ Some (drop 1 (drop (frame_start p head limit + held) input)) → Refused (code_command p input limit).frames (TookAtMost (code_command p input limit) left') TooLong before now
-too_long p input limit head held frame left left' before now none so_far more one =
+pub too_long : (how : Writing) (p : Schedule) (input : List ℕ) (limit head held : ℕ) (frame : List ℕ) (left left' before now : Option (List ℕ)) → held ≡ 0 → Progress how p input limit head limit held frame left before now
+    → 0 < length (drop (frame_start p head limit + held) input) → left' ≡ Some (drop 1 (drop (frame_start p head limit + held) input)) → Refused (code_command how p input limit).frames (TookAtMost (code_command how p input limit) left') TooLong before now
+too_long how p input limit head held frame left left' before now none so_far more one =
     let size = length-drop (frame_start p head limit + held) input in
     let next = start-more p head limit in
     let some = slots-some p limit in
-    refused p input limit head limit (frame_start p head limit + held + 1) TooLong left' before now so_far.found so_far.searched so_far.passed so_far.written
+    refused how p input limit head limit (frame_start p head limit + held + 1) TooLong left' before now so_far.found so_far.searched so_far.passed so_far.written
     (refusal-parts p input limit head limit (there p input head limit (omega (arith, size, more, none))) ∙ first-of _ _ _ TooLong (at_limit limit))
     (one ∙ ap Some (drop-drop 1 (frame_start p head limit + held) input)) (omega (arith, next, some, none))
 
-pub stopped_at_limit : (p : Schedule) (input : List ℕ) (limit head held : ℕ) (frame : List ℕ) (left left' before now : Option (List ℕ)) → 0 < limit → held ≡ 0 → Progress p input limit head limit held frame left before now
-    → left' ≡ Some (drop (frame_start p head limit + held) input) → ReadFailed (code_command p input limit).frames (λ g seat. Stopped (code_command p input limit) left' g) seats.In before now
-stopped_at_limit p input limit head held frame left left' before now few none so_far rest =
+pub stopped_at_limit : (how : Writing) (p : Schedule) (input : List ℕ) (limit head held : ℕ) (frame : List ℕ) (left left' before now : Option (List ℕ)) → 0 < limit → held ≡ 0 → Progress how p input limit head limit held frame left before now
+    → left' ≡ Some (drop (frame_start p head limit + held) input) → ReadFailed (code_command how p input limit).frames (λ g seat. Stopped (code_command how p input limit) left' g) seats.In before now
+stopped_at_limit how p input limit head held frame left left' before now few none so_far rest =
     let more = start-more p head limit in
     let some = slots-some p limit in
     let next = starts-next p input head limit so_far.found so_far.searched in

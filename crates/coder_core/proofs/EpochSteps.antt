@@ -1,11 +1,12 @@
 -- What a coder stands for from one frame of a plan to the next.
-use Rattle.std.proofs.Common.{◌≡◌, ℕ, ◌+◌, ◌-◌, ◌≤◌, ◌<◌, Bool, true, false, List, length, take, refl, ap, sym, ◌∙◌, subst, arith, inl, inr}
+use Rattle.std.proofs.Common.{◌≡◌, ℕ, ◌+◌, ◌-◌, ◌≤◌, ◌<◌, Bool, true, false, List, ◌++◌, length, take, refl, ap, sym, ◌∙◌, subst, arith, inl, inr}
 use Rattle.std.specs.Prelude.{Some, None, ◌==◌, ◌&&◌, nat_lt}
 use Rattle.std.specs.declared.option.Option.{Option}
 use Rattle.std.proofs.lemmas.Bool.{cases_lt, lt-ltb, eq-eqb, eqb-true}
 use Rattle.isdbt_base.specs.declared.kinds.Mode.{Mode}
 use Rattle.isdbt_base.specs.declared.epoch.At.{At}
 use Rattle.isdbt_base.specs.Parameters.{Parameters}
+use Rattle.isdbt_base.specs.declared.stream.Writing.{Writing}
 use Rattle.isdbt_base.specs.Plans.{Schedule, at_frame, IsPlan}
 use Rattle.isdbt_base.specs.Epochs.{begins_later}
 use Rattle.isdbt_base.specs.Frames.{FramePackets}
@@ -14,7 +15,7 @@ use Rattle.isdbt_base.proofs.EpochLaws.{IsBefore, at_other, epoch_frame, epoch_e
 use Rattle.edge_io.specs.Known.{append_known}
 use Rattle.coder_core.specs.declared.coder.Coder.{Coder}
 use Rattle.coder_core.specs.InputFrames.{first_head, packet_in, input_frames}
-use Rattle.coder_core.specs.SentCells.{epoch_frame_cells, plan_word}
+use Rattle.coder_core.specs.SentCells.{sent_head, epoch_frame_cells, plan_word}
 use Rattle.coder_core.specs.CodeRefusals.{coded_frame}
 use Rattle.coder_core.specs.Coder.{mode_of, guard_of, setting_of, IsFrameOf, StandsFor}
 use Rattle.coder_core.specs.FrameSteps.{IsOfFrame, StandsAt, Taken, AtFrame}
@@ -77,26 +78,27 @@ stands-fresh c p frames f first stands = subst (StandsFor c frames (at_frame p f
 -- ---- what a coder that is that of a frame makes of it
 
 -- the packets of the frame are those of the buffer
-pub is_frame : (p : Schedule) (input : List ℕ) (limit head f : ℕ) (frame : List ℕ) (left before now : Option (List ℕ)) (s : Parameters) (mode : Mode) → Taken p input limit head f frame left before now
+pub is_frame : (how : Writing) (p : Schedule) (input : List ℕ) (limit head f : ℕ) (frame : List ℕ) (left before now : Option (List ℕ)) (s : Parameters) (mode : Mode) → Taken how p input limit head f frame left before now
     → IsFrameOf s mode frame (input_frames p input head) ((at_frame p f).start + (f - (at_frame p f).start))
-is_frame p input limit head f frame left before now s mode t =
+is_frame how p input limit head f frame left before now s mode t =
     let least = epoch_start-le p f in
     subst (IsFrameOf s mode frame (input_frames p input head)) (let here : f ≡ (at_frame p f).start + (f - (at_frame p f).start) = omega (arith, least) in here)
     (record { each = λ x j less. ap (λ xs. packet_in xs x j) (sym t.frame_is) })
 
-pub cells_are : (c : Coder) (p : Schedule) (input : List ℕ) (head f : ℕ) → first_head input ≡ Some head → IsOfFrame c p f
-    → epoch_frame_cells (mode_of c) (setting_of c) (input_frames p input head) (at_frame p f).start (f - (at_frame p f).start) (plan_word p f) ≡ coded_frame p input f
-cells_are c p input head f found of =
+pub cells_are : (c : Coder) (how : Writing) (p : Schedule) (input : List ℕ) (head f : ℕ) → first_head input ≡ Some head → IsOfFrame c p f
+    → sent_head how p f ++ epoch_frame_cells (mode_of c) (setting_of c) (input_frames p input head) (at_frame p f).start (f - (at_frame p f).start) (plan_word p f) ≡ coded_frame how p input f
+cells_are c how p input head f found of =
     let a = at_frame p f in
-    ap (λ m. epoch_frame_cells m (setting_of c) (input_frames p input head) a.start (f - a.start) (plan_word p f)) of.mode
-    ∙ ap (λ s. epoch_frame_cells a.mode s (input_frames p input head) a.start (f - a.start) (plan_word p f)) of.setting
-    ∙ sym (coded-found p input head f found)
+    let head' = sent_head how p f in
+    ap (λ m. head' ++ epoch_frame_cells m (setting_of c) (input_frames p input head) a.start (f - a.start) (plan_word p f)) of.mode
+    ∙ ap (λ s. head' ++ epoch_frame_cells a.mode s (input_frames p input head) a.start (f - a.start) (plan_word p f)) of.setting
+    ∙ sym (coded-found how p input head f found)
 
 -- what is known behind the writing of a frame
-pub coded : (p : Schedule) (input : List ℕ) (limit head f : ℕ) (c : Coder) (frame other : List ℕ) (left before mid after : Option (List ℕ)) → IsPlan p → Taken p input limit head f frame left before mid
-    → after ≡ append_known mid (coded_frame p input f) → StandsFor c (input_frames p input head) (at_frame p f).start (f - (at_frame p f).start + 1) → AtFrame p input limit head (f + 1) 0 c other left before after
-coded p input limit head f c frame other left before mid after plan t wrote stands = record {
-  so_far = next p input limit head f frame other left before mid after t wrote;
+pub coded : (how : Writing) (p : Schedule) (input : List ℕ) (limit head f : ℕ) (c : Coder) (frame other : List ℕ) (left before mid after : Option (List ℕ)) → IsPlan p → Taken how p input limit head f frame left before mid
+    → after ≡ append_known mid (coded_frame how p input f) → StandsFor c (input_frames p input head) (at_frame p f).start (f - (at_frame p f).start + 1) → AtFrame how p input limit head (f + 1) 0 c other left before after
+coded how p input limit head f c frame other left before mid after plan t wrote stands = record {
+  so_far = next how p input limit head f frame other left before mid after t wrote;
   stands = stands-next c p (input_frames p input head) f plan stands;
 }
 

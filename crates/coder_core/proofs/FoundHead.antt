@@ -1,12 +1,13 @@
 -- What the command says of a frame where the first head was found.
-use Rattle.std.proofs.Common.{◌≡◌, ℕ, ◌-◌, Bool, true, false, List, [], ◌∷◌, refl, ap, ◌∙◌}
+use Rattle.std.proofs.Common.{◌≡◌, ℕ, ◌-◌, Bool, true, false, List, [], ◌∷◌, ◌++◌, refl, ap, ◌∙◌}
 use Rattle.std.specs.Prelude.{Some, None, ◌==◌, if◌then◌else◌}
 use Rattle.std.specs.declared.option.Option.{Option}
 use Rattle.isdbt_base.specs.Outcome.{first_some}
+use Rattle.isdbt_base.specs.declared.stream.Writing.{Writing}
 use Rattle.isdbt_base.specs.Plans.{Schedule, at_frame}
 use Rattle.coder_core.specs.declared.fault.CodeFault.{CodeFault}
 use Rattle.coder_core.specs.InputFrames.{first_head, input_frames}
-use Rattle.coder_core.specs.SentCells.{epoch_frame_cells, frame_cells, plan_word}
+use Rattle.coder_core.specs.SentCells.{sent_head, sent_frame, epoch_frame_cells, frame_cells, plan_word}
 use Rattle.coder_core.specs.CodeRefusals.{search_refusal, has_byte_of, frame_refusal, refusal_from, code_refusal, there_from, is_there, frames_from, coded_frame}
 
 pub first_some-one : (x : Option CodeFault) → first_some (x ∷ []) ≡ x
@@ -30,8 +31,8 @@ pub there-found : (p : Schedule) (input : List ℕ) (head f : ℕ) → first_hea
 unfolding is_there
 there-found p input head f found = ap (there_from p input f) found
 
-pub coded-found : (p : Schedule) (input : List ℕ) (head f : ℕ) → first_head input ≡ Some head
-    → coded_frame p input f ≡ epoch_frame_cells (at_frame p f).mode (at_frame p f).setting (input_frames p input head) (at_frame p f).start (f - (at_frame p f).start) (plan_word p f)
-unfolding coded_frame frame_cells
-coded-found p input head f found =
-    ap (λ o. epoch_frame_cells (at_frame p f).mode (at_frame p f).setting (frames_from p input o) (at_frame p f).start (f - (at_frame p f).start) (plan_word p f)) found
+pub coded-found : (how : Writing) (p : Schedule) (input : List ℕ) (head f : ℕ) → first_head input ≡ Some head
+    → coded_frame how p input f ≡ sent_head how p f ++ epoch_frame_cells (at_frame p f).mode (at_frame p f).setting (input_frames p input head) (at_frame p f).start (f - (at_frame p f).start) (plan_word p f)
+unfolding coded_frame sent_frame frame_cells
+coded-found how p input head f found =
+    ap (λ o. sent_head how p f ++ epoch_frame_cells (at_frame p f).mode (at_frame p f).setting (frames_from p input o) (at_frame p f).start (f - (at_frame p f).start) (plan_word p f)) found

@@ -1,5 +1,5 @@
 -- The buffers of a coding have room for each frame of the plan.
-use Rattle.std.proofs.Common.{ℕ, ◌*◌, ◌≤◌, vec_len, arith}
+use Rattle.std.proofs.Common.{ℕ, ◌+◌, ◌*◌, ◌≤◌, vec_len, arith}
 use Rattle.isdbt_base.specs.Numbers.{carriers, slots_per_frame}
 use Rattle.isdbt_base.specs.Plans.{Schedule, at_frame, greatest_of}
 use Rattle.isdbt_base.proofs.EpochLaws.{greatest-covers}
@@ -14,7 +14,7 @@ frame_fits p f b room =
     let size = room.frame in
     omega (arith, most, size)
 
-pub cells_fit : (p : Schedule) (f : ℕ) (b : CodeBuffers) → HasRoom p b → frame_size (at_frame p f).mode ≤ vec_len b.cells
+pub cells_fit : (p : Schedule) (f : ℕ) (b : CodeBuffers) → HasRoom p b → 8 + frame_size (at_frame p f).mode ≤ vec_len b.cells
 cells_fit p f b room =
     let most : carriers (at_frame p f).mode ≤ greatest_of (λ t. carriers t.mode) p = greatest-covers (λ t. carriers t.mode) p f in
     let size = room.cells in

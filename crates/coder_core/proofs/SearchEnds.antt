@@ -2,6 +2,7 @@
 use Rattle.std.proofs.Common.{◌≡◌, ℕ, zero, suc, ◌*◌, ◌≤◌, ◌<◌, false, List, [], length, drop, refl, ap, ◌∙◌, arith}
 use Rattle.std.specs.Prelude.{Some, None, Err}
 use Rattle.std.specs.declared.option.Option.{Option}
+use Rattle.isdbt_base.specs.declared.stream.Writing.{Writing}
 use Rattle.isdbt_base.specs.Plans.{Schedule}
 use Rattle.edge_io.specs.declared.shelf.Seat.{Seat}
 use Rattle.edge_io.specs.FrameAnswers.{FaultKind, frame_refused, read_failed, write_failed, no_memory, Refused, ReadFailed, TookAtMost, Stopped, Finished, lone_account, FaultAnswer, LoneAnswer}
@@ -23,11 +24,11 @@ empty_there : (p : Schedule) → is_there p [] 0 ≡ false
 unfolding is_there first_head
 empty_there p = refl
 
-pub empty_input : (p : Schedule) (input : List ℕ) (limit : ℕ) (left before : Option (List ℕ)) → input ≡ [] → left ≡ Some [] → Finished (code_command p input limit) 0 before before left
-empty_input p input limit left before none gone = record {
+pub empty_input : (how : Writing) (p : Schedule) (input : List ℕ) (limit : ℕ) (left before : Option (List ℕ)) → input ≡ [] → left ≡ Some [] → Finished (code_command how p input limit) 0 before before left
+empty_input how p input limit left before none gone = record {
   ended = record {
-    outcome = record { before = passed-none (code_command p input limit).frames; at = ap (λ xs. code_refusal p xs limit 0) none ∙ empty_refusal p limit; done = λ e. ap (λ xs. is_there p xs 0) none ∙ empty_there p };
-    written = wrote-none (code_command p input limit).frames before;
+    outcome = record { before = passed-none (code_command how p input limit).frames; at = ap (λ xs. code_refusal p xs limit 0) none ∙ empty_refusal p limit; done = λ e. ap (λ xs. is_there p xs 0) none ∙ empty_there p };
+    written = wrote-none (code_command how p input limit).frames before;
   };
   left_is = gone;
 }
@@ -37,10 +38,10 @@ refused_first : (p : Schedule) (input : List ℕ) (limit : ℕ) (fault : CodeFau
 unfolding code_refusal
 refused_first p input limit fault why = rw why refl
 
-refused : (p : Schedule) (input : List ℕ) (limit : ℕ) (fault : CodeFault) (left before : Option (List ℕ)) → SearchRefused input left fault → Refused (code_command p input limit).frames (TookAtMost (code_command p input limit) left) fault before before
-refused p input limit fault left before r = record {
+refused : (how : Writing) (p : Schedule) (input : List ℕ) (limit : ℕ) (fault : CodeFault) (left before : Option (List ℕ)) → SearchRefused input left fault → Refused (code_command how p input limit).frames (TookAtMost (code_command how p input limit) left) fault before before
+refused how p input limit fault left before r = record {
   frame = 0;
-  ended = ended-refused (code_command p input limit).frames 0 fault before before (passed-none (code_command p input limit).frames) (wrote-none (code_command p input limit).frames before) (refused_first p input limit fault r.refused);
+  ended = ended-refused (code_command how p input limit).frames 0 fault before before (passed-none (code_command how p input limit).frames) (wrote-none (code_command how p input limit).frames before) (refused_first p input limit fault r.refused);
   account = record { taken = r.taken; left_is = r.left_is; most = (let e = starts-refused p input 1 fault r.refused (omega arith) in let most = r.most in omega (arith, e, most)) };
 }
 
@@ -68,25 +69,25 @@ below-end p input taken f None (Some head) some why is stop =
     let past = head-from input stop.packets head stop.no_head is in
     omega (arith, e, first, one, rises, past, stop.below, slots)
 
-stopped : (p : Schedule) (input : List ℕ) (limit : ℕ) (seat : Seat) (left before : Option (List ℕ)) → 0 < limit → (taken : ℕ) × (left ≡ Some (drop taken input)) × StoppedInSearch input taken
-    → ReadFailed (code_command p input limit).frames (λ f seat. Stopped (code_command p input limit) left f) seat before before
-stopped p input limit seat left before some said =
+stopped : (how : Writing) (p : Schedule) (input : List ℕ) (limit : ℕ) (seat : Seat) (left before : Option (List ℕ)) → 0 < limit → (taken : ℕ) × (left ≡ Some (drop taken input)) × StoppedInSearch input taken
+    → ReadFailed (code_command how p input limit).frames (λ f seat. Stopped (code_command how p input limit) left f) seat before before
+stopped how p input limit seat left before some said =
     let below = below-end p input said.0 1 (search_refusal input) (first_head input) (omega arith) refl refl said.2 in
     let end = below-end p input said.0 limit (search_refusal input) (first_head input) some refl refl said.2 in
     record {
       frame = 0;
-      passed = passed-none (code_command p input limit).frames;
-      written = wrote-none (code_command p input limit).frames before;
+      passed = passed-none (code_command how p input limit).frames;
+      written = wrote-none (code_command how p input limit).frames before;
       account = record { taken = said.0; left_is = said.1; from = (let first = starts-zero p input in omega (arith, first)); below = below; most = omega (arith, end) };
     }
 
-ended : (p : Schedule) (input : List ℕ) (limit : ℕ) (left before : Option (List ℕ)) (fault : CodeFault) (kind : FaultKind) → 0 < limit → SearchFault input left fault kind
-    → FaultAnswer (code_command p input limit).frames (lone_account (code_command p input limit) left) before before fault kind
-ended p input limit left before fault frame_refused some said = refused p input limit fault left before said
-ended p input limit left before fault (read_failed seat) some said = stopped p input limit seat left before some said
-ended p input limit left before fault write_failed some said = absurd said
-ended p input limit left before fault no_memory some said = absurd said
+ended : (how : Writing) (p : Schedule) (input : List ℕ) (limit : ℕ) (left before : Option (List ℕ)) (fault : CodeFault) (kind : FaultKind) → 0 < limit → SearchFault input left fault kind
+    → FaultAnswer (code_command how p input limit).frames (lone_account (code_command how p input limit) left) before before fault kind
+ended how p input limit left before fault frame_refused some said = refused how p input limit fault left before said
+ended how p input limit left before fault (read_failed seat) some said = stopped how p input limit seat left before some said
+ended how p input limit left before fault write_failed some said = absurd said
+ended how p input limit left before fault no_memory some said = absurd said
 
-pub search_ended : (p : Schedule) (input : List ℕ) (limit : ℕ) (packet : List ℕ) (left before : Option (List ℕ)) (fault : CodeFault) → 0 < limit → SearchAnswer input packet left (Err fault)
-    → LoneAnswer code_kind (code_command p input limit) before before left (Err fault)
-search_ended p input limit packet left before fault some said = ended p input limit left before fault (code_kind fault) some said
+pub search_ended : (how : Writing) (p : Schedule) (input : List ℕ) (limit : ℕ) (packet : List ℕ) (left before : Option (List ℕ)) (fault : CodeFault) → 0 < limit → SearchAnswer input packet left (Err fault)
+    → LoneAnswer code_kind (code_command how p input limit) before before left (Err fault)
+search_ended how p input limit packet left before fault some said = ended how p input limit left before fault (code_kind fault) some said

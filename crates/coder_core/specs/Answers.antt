@@ -4,6 +4,7 @@ use Rattle.std.specs.declared.option.Option.{Option}
 use Rattle.std.specs.declared.result.Result.{Result}
 use Rattle.isdbt_base.specs.Plans.{Schedule}
 use Rattle.isdbt_base.specs.Epochs.{begins_later}
+use Rattle.isdbt_base.specs.declared.stream.Writing.{Writing}
 use Rattle.ts_packet.specs.Packets.{piece}
 use Rattle.edge_io.specs.FrameAnswers.{FaultKind, frame_refused, read_failed, write_failed, no_memory, LoneCommand}
 use Rattle.coder_core.specs.declared.fault.CodeFault.{CodeFault}
@@ -18,10 +19,10 @@ code_kind WriteFault = write_failed
 code_kind NoMemory = no_memory
 code_kind fault = frame_refused
 
--- the coding of an input with a plan and a limit on frames; memory is asked for before the first read, and where a later epoch opens
-abbrev pub code_command : Schedule → List ℕ → ℕ → LoneCommand CodeFault
-code_command p input limit = record {
-  frames = record { refusal = code_refusal p input limit; is_there = is_there p input; frame = coded_frame p input; opens = begins_later p; ahead = 1 };
+-- the coding of an input with a plan, in a version of the stream and with a limit on frames; memory is asked for before the first read, and where a later epoch opens
+abbrev pub code_command : Writing → Schedule → List ℕ → ℕ → LoneCommand CodeFault
+code_command how p input limit = record {
+  frames = record { refusal = code_refusal p input limit; is_there = is_there p input; frame = coded_frame how p input; opens = begins_later p; ahead = 1 };
   input = input;
   limit = limit;
   starts = code_starts p input;

@@ -4,13 +4,14 @@ use Rattle.std.specs.List.{range_with_len}
 use Rattle.isdbt_base.specs.Plans.{Schedule, at_frame}
 use Rattle.isdbt_base.specs.Frames.{FramePackets}
 use Rattle.isdbt_base.specs.Outcome.{first_some}
+use Rattle.isdbt_base.specs.declared.stream.Writing.{Writing}
 use Rattle.ts_packet.specs.Packets.{piece, piece_count, sync_byte}
 use Rattle.edge_io.specs.declared.shelf.Seat.TheVariants as seats
 use Rattle.coder_core.specs.declared.fault.CodeFault.{CodeFault}
 use Rattle.coder_core.specs.declared.fault.CodeFault.TheVariants.{BadSync, Truncated, NoHead, TooLong}
 use Rattle.coder_core.specs.FrameChecks.{refusal}
 use Rattle.coder_core.specs.InputFrames.{first_head, bears_head, slots_at, packets_before, frame_start, frame_at, input_frames}
-use Rattle.coder_core.specs.SentCells.{frame_cells}
+use Rattle.coder_core.specs.SentCells.{sent_frame}
 
 -- ---- the search for the first frame head
 
@@ -101,6 +102,6 @@ abbrev pub frames_from : Schedule → List ℕ → Option ℕ → FramePackets
 frames_from p input None f x j = []
 frames_from p input (Some head) f x j = input_frames p input head f x j
 
--- the cells of frame f of a stream
-unfoldable pub coded_frame : Schedule → List ℕ → ℕ → List ℕ
-coded_frame p input f = frame_cells p (frames_from p input (first_head input)) f
+-- what is written of frame f of a stream
+unfoldable pub coded_frame : Writing → Schedule → List ℕ → ℕ → List ℕ
+coded_frame how p input f = sent_frame how p (frames_from p input (first_head input)) f

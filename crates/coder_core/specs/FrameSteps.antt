@@ -5,6 +5,7 @@ use Rattle.std.specs.declared.result.Result.{Result}
 use Rattle.isdbt_base.specs.Plans.{Schedule, at_frame}
 use Rattle.isdbt_base.specs.Epochs.{begins_later}
 use Rattle.isdbt_base.specs.Frames.{FramePackets}
+use Rattle.isdbt_base.specs.declared.stream.Writing.{Writing}
 use Rattle.edge_io.specs.FrameAnswers.{Passed, Wrote, Finished, LoneAnswer}
 use Rattle.coder_core.specs.declared.fault.CodeFault.{CodeFault}
 use Rattle.coder_core.specs.declared.coder.Coder.{Coder}
@@ -16,30 +17,30 @@ use Rattle.coder_core.specs.Answers.{code_kind, code_command}
 -- ---- progress
 
 -- the first f frames were taken, passed and written, and the first bytes of the next stand in the buffer
-pub record Progress (p : Schedule) (input : List ℕ) (limit head f held : ℕ) (frame : List ℕ) (left before now : Option (List ℕ)) : Type 0 where
+pub record Progress (how : Writing) (p : Schedule) (input : List ℕ) (limit head f held : ℕ) (frame : List ℕ) (left before now : Option (List ℕ)) : Type 0 where
   pub found : first_head input ≡ Some head
   pub searched : search_refusal input ≡ None
-  pub passed : Passed (code_command p input limit).frames f
-  pub written : Wrote (code_command p input limit).frames f before now
+  pub passed : Passed (code_command how p input limit).frames f
+  pub written : Wrote (code_command how p input limit).frames f before now
   pub holds : take held frame ≡ take held (drop (frame_start p head f) input)
   pub within : frame_start p head f + held ≤ length input
   pub left_is : left ≡ Some (drop (frame_start p head f + held) input)
 
 -- the first f frames were written, and frame f was taken and is passed
-pub record Taken (p : Schedule) (input : List ℕ) (limit head f : ℕ) (frame : List ℕ) (left before now : Option (List ℕ)) : Type 0 where
+pub record Taken (how : Writing) (p : Schedule) (input : List ℕ) (limit head f : ℕ) (frame : List ℕ) (left before now : Option (List ℕ)) : Type 0 where
   pub found : first_head input ≡ Some head
   pub searched : search_refusal input ≡ None
-  pub passed : Passed (code_command p input limit).frames (f + 1)
-  pub written : Wrote (code_command p input limit).frames f before now
+  pub passed : Passed (code_command how p input limit).frames (f + 1)
+  pub written : Wrote (code_command how p input limit).frames f before now
   pub frame_is : frame ≡ frame_at p input head f
   pub within : frame_start p head (f + 1) ≤ length input
   pub left_is : left ≡ Some (drop (frame_start p head (f + 1)) input)
 
 -- what the reading of frame f says: it was taken and is passed, or there is none, or it ends all
-abbrev pub TakeAnswer : Schedule → List ℕ → ℕ → ℕ → ℕ → List ℕ → Option (List ℕ) → Option (List ℕ) → Option (List ℕ) → Result Bool CodeFault → Type 0
-TakeAnswer p input limit head f frame left before now (Ok true) = Taken p input limit head f frame left before now
-TakeAnswer p input limit head f frame left before now (Ok false) = Finished (code_command p input limit) f before now left
-TakeAnswer p input limit head f frame left before now (Err fault) = LoneAnswer code_kind (code_command p input limit) before now left (Err fault)
+abbrev pub TakeAnswer : Writing → Schedule → List ℕ → ℕ → ℕ → ℕ → List ℕ → Option (List ℕ) → Option (List ℕ) → Option (List ℕ) → Result Bool CodeFault → Type 0
+TakeAnswer how p input limit head f frame left before now (Ok true) = Taken how p input limit head f frame left before now
+TakeAnswer how p input limit head f frame left before now (Ok false) = Finished (code_command how p input limit) f before now left
+TakeAnswer how p input limit head f frame left before now (Err fault) = LoneAnswer code_kind (code_command how p input limit) before now left (Err fault)
 
 -- ---- the coder
 
@@ -54,12 +55,12 @@ abbrev pub StandsAt : Coder → Schedule → FramePackets → ℕ → Type 0
 StandsAt c p frames f = StandsFor c frames (at_frame p f).start (f - (at_frame p f).start)
 
 -- the first f frames were coded, and the coder is that of frame f unless another epoch begins with it
-pub record AtFrame (p : Schedule) (input : List ℕ) (limit head f held : ℕ) (c : Coder) (frame : List ℕ) (left before now : Option (List ℕ)) : Type 0 where
-  pub so_far : Progress p input limit head f held frame left before now
+pub record AtFrame (how : Writing) (p : Schedule) (input : List ℕ) (limit head f held : ℕ) (c : Coder) (frame : List ℕ) (left before now : Option (List ℕ)) : Type 0 where
+  pub so_far : Progress how p input limit head f held frame left before now
   pub stands : begins_later p f ≡ false → StandsAt c p (input_frames p input head) f
 
 -- what the coding of frame f says: it was written, or there is none, or it ends all
-abbrev pub FrameAnswer : Schedule → List ℕ → ℕ → ℕ → ℕ → Coder → List ℕ → Option (List ℕ) → Option (List ℕ) → Option (List ℕ) → Result Bool CodeFault → Type 0
-FrameAnswer p input limit head f c frame left before now (Ok true) = AtFrame p input limit head (f + 1) 0 c frame left before now
-FrameAnswer p input limit head f c frame left before now (Ok false) = Finished (code_command p input limit) f before now left
-FrameAnswer p input limit head f c frame left before now (Err fault) = LoneAnswer code_kind (code_command p input limit) before now left (Err fault)
+abbrev pub FrameAnswer : Writing → Schedule → List ℕ → ℕ → ℕ → ℕ → Coder → List ℕ → Option (List ℕ) → Option (List ℕ) → Option (List ℕ) → Result Bool CodeFault → Type 0
+FrameAnswer how p input limit head f c frame left before now (Ok true) = AtFrame how p input limit head (f + 1) 0 c frame left before now
+FrameAnswer how p input limit head f c frame left before now (Ok false) = Finished (code_command how p input limit) f before now left
+FrameAnswer how p input limit head f c frame left before now (Err fault) = LoneAnswer code_kind (code_command how p input limit) before now left (Err fault)

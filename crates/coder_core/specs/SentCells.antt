@@ -1,5 +1,5 @@
 -- The cells that are sent of frames of packets (ARIB STD-B31 chapter 3), in this project's own layout of the cell stream: for each frame 204 symbols, each of a byte whose lowest bit is the TMCC bit and of 13 segments of cells, by segment and then by carrier, each of two bytes.
-use Rattle.std.specs.Prelude.{◌≡◌, ℕ, ◌<◌, ◌≤◌, ◌+◌, ◌-◌, ◌*◌, ◌/◌, ◌%◌, Bool, false, ◌==◌, Option, Some, None, List, [], ◌∷◌, pos, flat_map, slice_index_or, if◌then◌else◌, nat_lt}
+use Rattle.std.specs.Prelude.{◌≡◌, ℕ, ◌<◌, ◌≤◌, ◌+◌, ◌-◌, ◌*◌, ◌/◌, ◌%◌, Bool, false, ◌==◌, Option, Some, None, List, [], ◌∷◌, ◌++◌, pos, flat_map, slice_index_or, if◌then◌else◌, nat_lt}
 use Rattle.std.specs.List.{range_with_len}
 use Rattle.std.specs.Int.{w8, cast_unsigned, from_bool}
 use Rattle.isdbt_base.specs.declared.kinds.Mode.{Mode}
@@ -10,6 +10,8 @@ use Rattle.isdbt_base.specs.Parameters.{Parameters, layer_of}
 use Rattle.isdbt_base.specs.Numbers.{frame_symbols, carriers, packets_per_frame, first_segment}
 use Rattle.isdbt_base.specs.Plans.{Schedule, at_frame}
 use Rattle.isdbt_base.specs.Frames.{FramePackets}
+use Rattle.isdbt_base.specs.declared.stream.Writing.{Writing}
+use Rattle.isdbt_base.specs.Heads.{head_bytes}
 use Rattle.cell_map.specs.declared.cell.Cell.{Cell}
 use Rattle.cell_map.specs.Levels.{cell_of}
 use Rattle.tmcc_word.specs.Fields.{TmccFields}
@@ -61,6 +63,16 @@ plan_word p f = word_of (plan_info p f) (f % 2 == 1)
 -- the cells of frame f of a plan
 unfoldable pub frame_cells : Schedule → FramePackets → ℕ → List ℕ
 frame_cells p frames f = epoch_frame_cells (at_frame p f).mode (at_frame p f).setting frames (at_frame p f).start (f - (at_frame p f).start) (plan_word p f)
+
+-- ---- the versions of the stream
+
+-- what stands before the symbols of frame f: in version 2 a head that says its mode and guard interval, in version 1 nothing
+abbrev pub sent_head : Writing → Schedule → ℕ → List ℕ
+sent_head how p f = if how.v2 then head_bytes (at_frame p f).mode (at_frame p f).guard else []
+
+-- the bytes that are sent of frame f of a plan: its head and its cells
+unfoldable pub sent_frame : Writing → Schedule → FramePackets → ℕ → List ℕ
+sent_frame how p frames f = sent_head how p f ++ frame_cells p frames f
 
 -- the packets of two streams are alike in each frame of a plan up to f, where the layers have them
 abbrev pub AgreeUpTo : Schedule → ℕ → FramePackets → FramePackets → Type 0

@@ -1,6 +1,7 @@
 //! Broadcast packets into cells.
 
-ghost use Rattle.std.specs.Prelude.{◌≡◌, ℕ, List, ◌≤◌, ◌<◌, Some, true, take, vec_items};
+ghost use Rattle.std.specs.Prelude.{◌≡◌, ℕ, List, ◌≤◌, ◌<◌, Some, true, false, take, vec_items};
+ghost use Rattle.isdbt_base.specs.Plans.{KeepsMode};
 ghost use Rattle.isdbt_base.specs.Frames.{FramePackets};
 ghost use Rattle.edge_io.specs.declared.shelf.Seat.TheVariants as seats;
 ghost use Rattle.edge_io.specs.FrameAnswers.{LoneAnswer, LoneCause, AnswerRoom};
@@ -11,10 +12,10 @@ ghost use Rattle.coder_core.specs.FrameSteps.{IsOfFrame, StandsAt};
 use crate::buffers::CodeBuffers;
 use crate::coder::Coder;
 use crate::fault::CodeFault;
-use crate::frames::{FramePlace, code_frame, slots_at};
+use crate::frames::{FramePlace, Sending, code_frame, slots_at};
 use crate::search::find_head;
 use edge_io::{Failed, Seat, Shelf, Sink, ends};
-use isdbt_base::{BROADCAST_BYTES, Plan, put};
+use isdbt_base::{BROADCAST_BYTES, Plan, Writing, put};
 use std::alloc::Global;
 
 /// Which frames of an input are coded: from the packet of the first head on, at most so many.
@@ -28,22 +29,22 @@ struct FrameSpan {
 /// there are. The coder is that of frame 0, and has seen no frame.
 fn code_frames<H: Shelf, K: Sink>(
     alloc: Global,
-    plan: &Plan,
+    sending: Sending,
     coder: &mut Coder,
     span: FrameSpan,
     buffers: &mut CodeBuffers,
     shelf: &mut H,
     sink: &mut K,
 ) -> Result<u32, CodeFault>
-    requires coder { IsOfFrame coder.old plan.now 0 }
-    requires fresh { (frames : FramePackets) → StandsAt coder.old plan.now frames 0 }
+    requires coder { IsOfFrame coder.old sending.plan.now 0 }
+    requires fresh { (frames : FramePackets) → StandsAt coder.old sending.plan.now frames 0 }
     requires head { span.head < 65536 }
     requires some { 0 < span.limit }
     requires few { span.limit ≤ 16777216 }
-    requires has_room { HasRoom plan.now buffers.old }
+    requires has_room { HasRoom sending.plan.now buffers.old }
     requires is_open { H.is_open shelf.old seats.In ≡ true }
     ensures answer { (input : List ℕ) → Found input span.head (take 204 (vec_items buffers.old.frame)) (H.left shelf.old seats.In)
-        → LoneAnswer code_kind (code_command plan.now input span.limit) (K.written sink.old) (K.written sink.new) (H.left shelf.new seats.In) result }
+        → LoneAnswer code_kind (code_command sending.entry.how sending.entry.plan.now input span.limit) (K.written sink.old) (K.written sink.new) (H.left shelf.new seats.In) result }
     ensures still_open { H.is_open shelf.new ≡ H.is_open shelf.old }
     ensures cause { LoneCause code_kind (H.faults shelf.old) (H.faults shelf.new) (K.faults sink.old) (K.faults sink.new) result }
     ensures sink_room { K.room sink.new ≡ K.room sink.old }
@@ -57,12 +58,12 @@ fn code_frames<H: Shelf, K: Sink>(
             first_packet,
             held,
         };
-        match code_frame(alloc, plan, coder, place, buffers, shelf, sink) {
+        match code_frame(alloc, sending, coder, place, buffers, shelf, sink) {
             Ok(true) => {}
             Ok(false) => return Ok(number),
             Err(fault) => return Err(fault),
         }
-        first_packet += u64::from(slots_at(plan, number));
+        first_packet += u64::from(slots_at(sending.plan, number));
         held = 0;
     }
     match ends(shelf, Seat::In) {
@@ -75,21 +76,21 @@ fn code_frames<H: Shelf, K: Sink>(
 /// Codes a stream with the coder of frame 0, which has seen no frame.
 fn code_stream<H: Shelf, K: Sink>(
     alloc: Global,
-    plan: &Plan,
+    sending: Sending,
     coder: &mut Coder,
     limit: u32,
     buffers: &mut CodeBuffers,
     shelf: &mut H,
     sink: &mut K,
 ) -> Result<u32, CodeFault>
-    requires coder { IsOfFrame coder.old plan.now 0 }
-    requires fresh { (frames : FramePackets) → StandsAt coder.old plan.now frames 0 }
+    requires coder { IsOfFrame coder.old sending.plan.now 0 }
+    requires fresh { (frames : FramePackets) → StandsAt coder.old sending.plan.now frames 0 }
     requires some { 0 < limit }
     requires few { limit ≤ 16777216 }
-    requires has_room { HasRoom plan.now buffers.old }
+    requires has_room { HasRoom sending.plan.now buffers.old }
     requires is_open { H.is_open shelf.old seats.In ≡ true }
     ensures answer { (input : List ℕ) → H.left shelf.old seats.In ≡ Some input
-        → LoneAnswer code_kind (code_command plan.now input limit) (K.written sink.old) (K.written sink.new) (H.left shelf.new seats.In) result }
+        → LoneAnswer code_kind (code_command sending.entry.how sending.entry.plan.now input limit) (K.written sink.old) (K.written sink.new) (H.left shelf.new seats.In) result }
     ensures still_open { H.is_open shelf.new ≡ H.is_open shelf.old }
     ensures cause { LoneCause code_kind (H.faults shelf.old) (H.faults shelf.new) (K.faults sink.old) (K.faults sink.new) result }
     ensures sink_room { K.room sink.new ≡ K.room sink.old }
@@ -103,13 +104,13 @@ fn code_stream<H: Shelf, K: Sink>(
     };
     put(&mut buffers.frame, 0, &packet);
     let span = FrameSpan { head, limit };
-    code_frames(alloc, plan, coder, span, buffers, shelf, sink)
+    code_frames(alloc, sending, coder, span, buffers, shelf, sink)
 }
 
 /// Codes a stream with these buffers, and takes the first coder's memory before the first read.
 fn code_within<H: Shelf, K: Sink>(
     alloc: Global,
-    plan: &Plan,
+    sending: Sending,
     limit: u32,
     buffers: &mut CodeBuffers,
     shelf: &mut H,
@@ -117,20 +118,20 @@ fn code_within<H: Shelf, K: Sink>(
 ) -> Result<u32, CodeFault>
     requires some { 0 < limit }
     requires few { limit ≤ 16777216 }
-    requires has_room { HasRoom plan.now buffers.old }
+    requires has_room { HasRoom sending.plan.now buffers.old }
     requires is_open { H.is_open shelf.old seats.In ≡ true }
     ensures answer { (input : List ℕ) → H.left shelf.old seats.In ≡ Some input
-        → LoneAnswer code_kind (code_command plan.now input limit) (K.written sink.old) (K.written sink.new) (H.left shelf.new seats.In) result }
+        → LoneAnswer code_kind (code_command sending.entry.how sending.entry.plan.now input limit) (K.written sink.old) (K.written sink.new) (H.left shelf.new seats.In) result }
     ensures still_open { H.is_open shelf.new ≡ H.is_open shelf.old }
     ensures cause { LoneCause code_kind (H.faults shelf.old) (H.faults shelf.new) (K.faults sink.old) (K.faults sink.new) result }
     ensures sink_room { K.room sink.new ≡ K.room sink.old }
     ensures reached { AnswerRoom code_kind (K.room sink.old) (K.written sink.new) result }
 {
-    let at = plan.at(0);
+    let at = sending.plan.at(0);
     let Ok(mut coder) = Coder::open(alloc, &at.setting, at.mode, at.guard) else {
         return Err(CodeFault::NoMemory);
     };
-    code_stream(alloc, plan, &mut coder, limit, buffers, shelf, sink)
+    code_stream(alloc, sending, &mut coder, limit, buffers, shelf, sink)
 }
 
 /// Codes the frames of the broadcast packets at the seat In with a plan, at most `limit` of them, and answers how many were
@@ -138,21 +139,26 @@ fn code_within<H: Shelf, K: Sink>(
 /// Frame after frame is read, checked, coded and written: no byte past the frame in work is asked for. Each epoch of the
 /// plan has frames of its own size and a coder of its own.
 ///
+/// In version 2 a head of eight bytes stands before each frame's symbols, which says the frame's mode and guard interval.
+/// Version 1 has none, so the plan must keep its mode and guard interval.
+///
 /// Memory for all but the later coders is taken before the first read, so that its want comes with nothing read and nothing
 /// written. A later coder is opened behind the check of its epoch's first frame: where memory runs out then, the frames
 /// before are written, and that frame is taken.
 pub fn code<H: Shelf, K: Sink>(
     alloc: Global,
     plan: &Plan,
+    how: Writing,
     limit: u32,
     shelf: &mut H,
     sink: &mut K,
 ) -> Result<u32, CodeFault>
+    requires version { how.v2 ≡ false → KeepsMode plan.now.first plan.now.switches }
     requires some { 0 < limit }
     requires few { limit ≤ 16777216 }
     requires is_open { H.is_open shelf.old seats.In ≡ true }
     ensures answer { (input : List ℕ) → H.left shelf.old seats.In ≡ Some input
-        → LoneAnswer code_kind (code_command plan.now input limit) (K.written sink.old) (K.written sink.new) (H.left shelf.new seats.In) result }
+        → LoneAnswer code_kind (code_command how plan.now input limit) (K.written sink.old) (K.written sink.new) (H.left shelf.new seats.In) result }
     ensures still_open { H.is_open shelf.new ≡ H.is_open shelf.old }
     ensures cause { LoneCause code_kind (H.faults shelf.old) (H.faults shelf.new) (K.faults sink.old) (K.faults sink.new) result }
 
@@ -163,5 +169,5 @@ pub fn code<H: Shelf, K: Sink>(
     let Ok(mut buffers) = CodeBuffers::open(alloc, plan) else {
         return Err(CodeFault::NoMemory);
     };
-    code_within(alloc, plan, limit, &mut buffers, shelf, sink)
+    code_within(alloc, Sending { plan, how }, limit, &mut buffers, shelf, sink)
 }

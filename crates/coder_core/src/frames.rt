@@ -1,18 +1,19 @@
 //! The frames of a stream of broadcast packets, one after another: read, checked, coded and written.
 
-ghost use Rattle.std.specs.Prelude.{◌≡◌, ℕ, List, ◌+◌, ◌*◌, ◌%◌, ◌==◌, ◌≤◌, ◌<◌, ◌^◌, true, false, length, take, vec_items, IfOk, OnOk, OnErr};
+ghost use Rattle.std.specs.Prelude.{◌≡◌, ℕ, List, ◌++◌, ◌+◌, ◌*◌, ◌%◌, ◌==◌, ◌≤◌, ◌<◌, ◌^◌, true, false, length, take, vec_items, IfOk, OnOk, OnErr};
 ghost use Rattle.std.specs.declared.option.Option.{Option};
 ghost use Rattle.isdbt_base.specs.Numbers.{slots_per_frame};
 ghost use Rattle.isdbt_base.specs.Plans.{at_frame};
 ghost use Rattle.isdbt_base.specs.Epochs.{begins_later};
 ghost use Rattle.isdbt_base.specs.Frames.{FramePackets};
+ghost use Rattle.isdbt_base.specs.declared.stream.Writing.{Writing};
 ghost use Rattle.edge_io.specs.declared.shelf.Seat.TheVariants as seats;
 ghost use Rattle.edge_io.specs.Known.{append_known, ReachesRoom};
 ghost use Rattle.edge_io.specs.Causes.{HasCause};
 ghost use Rattle.edge_io.specs.FrameAnswers.{ReadingCause, LoneCause, AnswerRoom};
 ghost use Rattle.coder_core.specs.FrameChecks.{CanCode};
 ghost use Rattle.coder_core.specs.InputFrames.{slots_at, packets_before};
-ghost use Rattle.coder_core.specs.SentCells.{epoch_frame_cells, frame_size, plan_word};
+ghost use Rattle.coder_core.specs.SentCells.{epoch_frame_cells, frame_size, plan_word, sent_head};
 ghost use Rattle.coder_core.specs.Coder.{mode_of, guard_of, setting_of, IsFrameOf, StandsFor};
 ghost use Rattle.coder_core.specs.Answers.{code_kind};
 ghost use Rattle.coder_core.specs.Buffers.{HasRoom};
@@ -23,9 +24,18 @@ use crate::check::check_frame;
 use crate::coder::Coder;
 use crate::fault::CodeFault;
 use edge_io::{Failed, Seat, Shelf, Sink, fill_behind, write_whole};
-use isdbt_base::{BROADCAST_BYTES, NoMemory, Plan, SYMBOLS, slots, symbol_size};
+use isdbt_base::{
+    BROADCAST_BYTES, NoMemory, Plan, SYMBOLS, Writing, head_of, put, slots, symbol_size,
+};
 use std::alloc::Global;
 use tmcc_word::{TmccInfo, word_of};
+
+/// What is sent: a plan, in a version of the stream of cells.
+#[derive(Clone, Copy)]
+pub struct Sending<'a> {
+    pub plan: &'a Plan,
+    pub how: Writing,
+}
 
 /// Where a frame of the input stands.
 #[derive(Clone, Copy)]
@@ -77,9 +87,9 @@ fn take_frame<H: Shelf>(
     ensures still_open { H.is_open shelf.new ≡ H.is_open shelf.old }
     ensures codable { IfOk result (λ there. there ≡ true
         → CanCode (at_frame plan.now place.number).setting (at_frame plan.now place.number).mode (take (204 * slots_at plan.now place.number) buffer.new)) }
-    ensures answer { (input : List ℕ) (limit head : ℕ) (before now : Option (List ℕ)) → place.number < limit → place.first_packet ≡ head + packets_before plan.now place.number
-        → Progress plan.now input limit head place.number place.held buffer.old (H.left shelf.old seats.In) before now
-        → TakeAnswer plan.now input limit head place.number (take (204 * slots_at plan.now place.number) buffer.new) (H.left shelf.new seats.In) before now result }
+    ensures answer { (how : Writing) (input : List ℕ) (limit head : ℕ) (before now : Option (List ℕ)) → place.number < limit → place.first_packet ≡ head + packets_before plan.now place.number
+        → Progress how plan.now input limit head place.number place.held buffer.old (H.left shelf.old seats.In) before now
+        → TakeAnswer how plan.now input limit head place.number (take (204 * slots_at plan.now place.number) buffer.new) (H.left shelf.new seats.In) before now result }
     ensures cause { ReadingCause code_kind (H.faults shelf.old) (H.faults shelf.new) result }
 {
     let at = plan.at(place.number);
@@ -133,9 +143,23 @@ fn turn_to(alloc: Global, plan: &Plan, number: u32, coder: &mut Coder) -> Result
     Ok(())
 }
 
-/// Codes a frame that can be coded into the buffer, and writes its cells.
+/// Puts what stands before a frame's symbols into the buffer, and says how many bytes that is.
+fn put_head(sending: Sending, number: u32, buffer: &mut [u8]) -> usize
+    requires { 8 ≤ length buffer.old }
+    ensures size { result ≡ length (sent_head sending.entry.how sending.entry.plan.now number) }
+    ensures most { result ≤ 8 }
+    ensures bytes { take result buffer.new ≡ sent_head sending.entry.how sending.entry.plan.now number }
+{
+    if !sending.how.v2 {
+        return 0;
+    }
+    let at = sending.plan.at(number);
+    put(buffer, 0, &head_of(at.mode, at.guard))
+}
+
+/// Codes a frame that can be coded into the buffer, and writes its head and its cells.
 fn write_cells<K: Sink>(
-    plan: &Plan,
+    sending: Sending,
     coder: &mut Coder,
     number: u32,
     frame: &[u8],
@@ -144,13 +168,13 @@ fn write_cells<K: Sink>(
 ) -> Result<(), Failed>
     requires size { length frame.now ≡ 204 * slots_per_frame (mode_of coder.old) (guard_of coder.old) }
     requires codable { CanCode (setting_of coder.old) (mode_of coder.old) frame.now }
-    requires mode { mode_of coder.old ≡ (at_frame plan.now number).mode }
-    requires room { frame_size (at_frame plan.now number).mode ≤ length buffer.old }
+    requires mode { mode_of coder.old ≡ (at_frame sending.plan.now number).mode }
+    requires room { 8 + frame_size (at_frame sending.plan.now number).mode ≤ length buffer.old }
     ensures ok { OnOk result ((frames : FramePackets) (start g : ℕ) → StandsFor coder.old frames start g → IsFrameOf (setting_of coder.old) (mode_of coder.old) frame.now frames (start + g)
-        → K.written sink.new ≡ append_known (K.written sink.old) (epoch_frame_cells (mode_of coder.old) (setting_of coder.old) frames start g (plan_word plan.now number))) }
+        → K.written sink.new ≡ append_known (K.written sink.old) (sent_head sending.entry.how sending.entry.plan.now number ++ epoch_frame_cells (mode_of coder.old) (setting_of coder.old) frames start g (plan_word sending.entry.plan.now number))) }
     ensures some { OnErr result ((frames : FramePackets) (start g : ℕ) → StandsFor coder.old frames start g → IsFrameOf (setting_of coder.old) (mode_of coder.old) frame.now frames (start + g)
-        → (n : ℕ) × (n < length (epoch_frame_cells (mode_of coder.old) (setting_of coder.old) frames start g (plan_word plan.now number)))
-        × (K.written sink.new ≡ append_known (K.written sink.old) (take n (epoch_frame_cells (mode_of coder.old) (setting_of coder.old) frames start g (plan_word plan.now number))))) }
+        → (n : ℕ) × (n < length (sent_head sending.entry.how sending.entry.plan.now number ++ epoch_frame_cells (mode_of coder.old) (setting_of coder.old) frames start g (plan_word sending.entry.plan.now number)))
+        × (K.written sink.new ≡ append_known (K.written sink.old) (take n (sent_head sending.entry.how sending.entry.plan.now number ++ epoch_frame_cells (mode_of coder.old) (setting_of coder.old) frames start g (plan_word sending.entry.plan.now number))))) }
     ensures state { (frames : FramePackets) (start g : ℕ) → StandsFor coder.old frames start g → IsFrameOf (setting_of coder.old) (mode_of coder.old) frame.now frames (start + g) → StandsFor coder.new frames start (g + 1) }
     ensures mode_kept { mode_of coder.new ≡ mode_of coder.old }
     ensures guard { guard_of coder.new ≡ guard_of coder.old }
@@ -159,10 +183,10 @@ fn write_cells<K: Sink>(
     ensures reached { OnErr result (ReachesRoom (K.room sink.old) (K.written sink.new)) }
     ensures cause { HasCause (K.faults sink.old) (K.faults sink.new) result }
 {
-    let size = SYMBOLS * symbol_size(plan.at(number).mode);
-    let cells = &mut buffer[..size];
-    coder.frame(frame, &word_at(plan, number), cells);
-    write_whole(sink, cells)
+    let head = put_head(sending, number, buffer);
+    let end = head + SYMBOLS * symbol_size(sending.plan.at(number).mode);
+    coder.frame(frame, &word_at(sending.plan, number), &mut buffer[head..end]);
+    write_whole(sink, &buffer[..end])
 }
 
 /// Reads, checks, codes and writes a frame. It is false where the input ended before the frame.
@@ -170,42 +194,49 @@ fn write_cells<K: Sink>(
 /// Where an epoch begins with the frame, its coder is opened behind the check.
 pub fn code_frame<H: Shelf, K: Sink>(
     alloc: Global,
-    plan: &Plan,
+    sending: Sending,
     coder: &mut Coder,
     place: FramePlace,
     buffers: &mut CodeBuffers,
     shelf: &mut H,
     sink: &mut K,
 ) -> Result<bool, CodeFault>
-    requires coder { begins_later plan.now place.number ≡ false → IsOfFrame coder.old plan.now place.number }
+    requires coder { begins_later sending.plan.now place.number ≡ false → IsOfFrame coder.old sending.plan.now place.number }
     requires first { place.first_packet ≤ 2 ^ 60 }
     requires held { place.held ≤ 204 }
-    requires room { HasRoom plan.now buffers.old }
+    requires room { HasRoom sending.plan.now buffers.old }
     requires is_open { H.is_open shelf.old seats.In ≡ true }
     ensures still_open { H.is_open shelf.new ≡ H.is_open shelf.old }
-    ensures kept { HasRoom plan.now buffers.new }
-    ensures next_coder { IfOk result (λ there. there ≡ true → begins_later plan.now (place.number + 1) ≡ false → IsOfFrame coder.new plan.now (place.number + 1)) }
-    ensures answer { (input : List ℕ) (limit head : ℕ) (first : Option (List ℕ)) → place.number < limit → place.first_packet ≡ head + packets_before plan.now place.number
-        → AtFrame plan.now input limit head place.number place.held coder.old (vec_items buffers.old.frame) (H.left shelf.old seats.In) first (K.written sink.old)
-        → FrameAnswer plan.now input limit head place.number coder.new (vec_items buffers.new.frame) (H.left shelf.new seats.In) first (K.written sink.new) result }
+    ensures kept { HasRoom sending.entry.plan.now buffers.new }
+    ensures next_coder { IfOk result (λ there. there ≡ true → begins_later sending.entry.plan.now (place.number + 1) ≡ false → IsOfFrame coder.new sending.entry.plan.now (place.number + 1)) }
+    ensures answer { (input : List ℕ) (limit head : ℕ) (first : Option (List ℕ)) → place.number < limit → place.first_packet ≡ head + packets_before sending.entry.plan.now place.number
+        → AtFrame sending.entry.how sending.entry.plan.now input limit head place.number place.held coder.old (vec_items buffers.old.frame) (H.left shelf.old seats.In) first (K.written sink.old)
+        → FrameAnswer sending.entry.how sending.entry.plan.now input limit head place.number coder.new (vec_items buffers.new.frame) (H.left shelf.new seats.In) first (K.written sink.new) result }
     ensures cause { LoneCause code_kind (H.faults shelf.old) (H.faults shelf.new) (K.faults sink.old) (K.faults sink.new) result }
     ensures sink_room { K.room sink.new ≡ K.room sink.old }
     ensures reached { AnswerRoom code_kind (K.room sink.old) (K.written sink.new) result }
 {
-    plan.acceptance_law();
+    sending.plan.acceptance_law();
     let number = place.number;
-    match take_frame(plan, place, &mut buffers.frame, shelf) {
+    match take_frame(sending.plan, place, &mut buffers.frame, shelf) {
         Ok(true) => {}
         Ok(false) => return Ok(false),
         Err(fault) => return Err(fault),
     }
-    match turn_to(alloc, plan, number, coder) {
+    match turn_to(alloc, sending.plan, number, coder) {
         Ok(()) => {}
         Err(NoMemory) => return Err(CodeFault::NoMemory),
     }
-    let size = BROADCAST_BYTES * slots_at(plan, number) as usize;
+    let size = BROADCAST_BYTES * slots_at(sending.plan, number) as usize;
     let frame = &buffers.frame[..size];
-    match write_cells(plan, coder, number, frame, &mut buffers.cells, sink) {
+    match write_cells(
+        sending,
+        coder,
+        number,
+        frame,
+        &mut buffers.cells,
+        sink,
+    ) {
         Ok(()) => Ok(true),
         Err(Failed) => Err(CodeFault::WriteFault),
     }

@@ -1,9 +1,16 @@
 -- A stream of cells as a receiver sees it: the TMCC words of its frames, and the cells by frame, symbol, segment and carrier. The layout is that of the cells that are sent.
-use Rattle.std.specs.Prelude.{◌≡◌, ◌≤◌, ◌<◌, ℕ, ◌+◌, ◌*◌, ◌%◌, Bool, ◌==◌, List, length, map, slice_index}
+use Rattle.std.specs.Prelude.{◌≡◌, ◌≤◌, ◌<◌, ℕ, zero, suc, ◌+◌, ◌*◌, ◌%◌, Bool, true, false, ◌==◌, Result, Ok, Err, List, length, take, drop, map, slice_index}
 use Rattle.std.specs.List.{range_with_len}
 use Rattle.std.specs.Int.{w8, cast_signed}
 use Rattle.isdbt_base.specs.declared.kinds.Mode.{Mode}
+use Rattle.isdbt_base.specs.declared.kinds.Mode.TheVariants.{M1}
 use Rattle.isdbt_base.specs.declared.kinds.Guard.{Guard}
+use Rattle.isdbt_base.specs.declared.kinds.Guard.TheVariants.{G4}
+use Rattle.isdbt_base.specs.declared.head.HeadFault.{HeadFault}
+use Rattle.isdbt_base.specs.declared.stream.Writing.{Writing}
+use Rattle.isdbt_base.specs.declared.stream.Form.{Form}
+use Rattle.isdbt_base.specs.declared.stream.Form.TheVariants.{V1, V2}
+use Rattle.isdbt_base.specs.Heads.{head_size, head_read}
 use Rattle.isdbt_base.specs.Numbers.{frame_symbols, carriers}
 use Rattle.cell_map.specs.declared.cell.Cell.{Cell}
 use Rattle.coder_core.specs.SentCells.{frame_size}
@@ -66,6 +73,64 @@ first_version mode guard stream = record {
   word = stream_word mode stream;
   cell = stream_cell mode stream;
 }
+
+-- ---- the second version of the stream: each frame has a head, which says its mode and guard interval
+
+-- what the head says of the frame that begins with these bytes
+abbrev pub head_said : List ℕ → Result (Mode × Guard) HeadFault
+head_said bytes = head_read (take head_size bytes)
+
+-- the bytes of a frame of which the head says this; of one that is refused they are one more than there are, so that it is never whole
+abbrev pub bytes_said : ℕ → Result (Mode × Guard) HeadFault → ℕ
+bytes_said count (Ok said) = head_size + frame_size said.0
+bytes_said count (Err fault) = count + 1
+
+-- the byte at which frame f begins: where the frame before ends
+unfoldable pub second_start : List ℕ → ℕ → ℕ
+second_start stream zero = 0
+second_start stream (suc f) = second_start stream f + bytes_said (length (drop (second_start stream f) stream)) (head_said (drop (second_start stream f) stream))
+
+-- the bytes from frame f on
+abbrev pub bytes_from : List ℕ → ℕ → List ℕ
+bytes_from stream f = drop (second_start stream f) stream
+
+-- mode and guard interval as a head says them; of one that is refused any
+abbrev pub mode_said : Result (Mode × Guard) HeadFault → Mode
+mode_said (Ok said) = said.0
+mode_said (Err fault) = M1
+
+abbrev pub guard_said : Result (Mode × Guard) HeadFault → Guard
+guard_said (Ok said) = said.1
+guard_said (Err fault) = G4
+
+-- the symbols of frame f and what follows them
+abbrev pub symbols_from : List ℕ → ℕ → List ℕ
+symbols_from stream f = drop head_size (bytes_from stream f)
+
+abbrev pub second_version : List ℕ → View
+second_version stream = record {
+  size = length stream;
+  starts = second_start stream;
+  head = head_size;
+  mode = λ f. mode_said (head_said (bytes_from stream f));
+  guard = λ f. guard_said (head_said (bytes_from stream f));
+  word = λ f. stream_word (mode_said (head_said (bytes_from stream f))) (symbols_from stream f) 0;
+  cell = λ f. stream_cell (mode_said (head_said (bytes_from stream f))) (symbols_from stream f) 0;
+}
+
+-- ---- either version
+
+-- the view of a stream in a version
+abbrev pub view_of : Form → List ℕ → View
+view_of (V1 mode guard) stream = first_version mode guard stream
+view_of V2 stream = second_version stream
+
+-- how a stream of a version is written
+abbrev pub writing_of : Form → Writing
+writing_of (V1 mode guard) = record { v2 = false }
+writing_of V2 = record { v2 = true }
+
+-- ---- laws of views
 
 -- each of the first frames ends where the next begins
 abbrev pub AreInRow : View → ℕ → Type 0

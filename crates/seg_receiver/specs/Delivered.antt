@@ -5,6 +5,8 @@ use Rattle.isdbt_base.specs.declared.kinds.Mode.{Mode}
 use Rattle.isdbt_base.specs.declared.kinds.Guard.{Guard}
 use Rattle.isdbt_base.specs.declared.kinds.Layer.{Layer}
 use Rattle.isdbt_base.specs.declared.kinds.Layer.TheVariants.{A}
+use Rattle.isdbt_base.specs.declared.stream.Form.{Form}
+use Rattle.isdbt_base.specs.declared.stream.Form.TheVariants.{V1, V2}
 use Rattle.isdbt_base.specs.LayerParameters.{LayerParameters}
 use Rattle.isdbt_base.specs.Parameters.{layer_of}
 use Rattle.isdbt_base.specs.Numbers.{packets_per_frame, layer_delay, first_segment}
@@ -22,6 +24,16 @@ use Rattle.seg_receiver.specs.Received.{place_bits}
 -- a plan sends its first frames in this mode and with this guard interval
 abbrev pub SendsIn : Mode → Guard → Schedule → ℕ → Type 0
 SendsIn mode guard p count = (f : ℕ) → f < count → ((at_frame p f).mode ≡ mode) × ((at_frame p f).guard ≡ guard)
+
+-- a stream of a version can carry a plan's first frames: version 1 has one mode and guard interval for all of them
+abbrev pub CanCarry : Form → Schedule → ℕ → Type 0
+CanCarry (V1 mode guard) p count = SendsIn mode guard p count
+CanCarry V2 p count = Unit {0}
+
+-- the same for partial reception, to which the guard interval is nothing
+abbrev pub CanCarryPartial : Form → Schedule → ℕ → Type 0
+CanCarryPartial (V1 mode guard) p count = (f : ℕ) → f < count → (at_frame p f).mode ≡ mode
+CanCarryPartial V2 p count = Unit {0}
 
 -- how many frames of its epoch are before a frame
 abbrev pub into_epoch : Schedule → ℕ → ℕ

@@ -1,8 +1,8 @@
 //! Laws of the commands one after another: `code` of what `remux` writes, and what is received of it.
 
 ghost use Rattle.std.specs.Prelude.{◌≡◌, ℕ, ◌+◌, ◌-◌, ◌<◌, ◌≤◌, Some, None, List, []};
-ghost use Rattle.isdbt_base.specs.declared.kinds.Mode.{Mode};
-ghost use Rattle.isdbt_base.specs.declared.kinds.Guard.{Guard};
+ghost use Rattle.isdbt_base.specs.declared.stream.Writing.{Writing};
+ghost use Rattle.isdbt_base.specs.declared.stream.Form.{Form};
 ghost use Rattle.isdbt_base.specs.declared.kinds.Layer.{Layer};
 ghost use Rattle.isdbt_base.specs.LayerParameters.{LayerParameters};
 ghost use Rattle.isdbt_base.specs.Parameters.{layer_of};
@@ -16,11 +16,11 @@ ghost use Rattle.remux_core.specs.Multiplex.{placed_before, multiplexed, packet_
 ghost use Rattle.remux_core.specs.Answers.{IsPlacedIn};
 ghost use Rattle.remux_core.specs.Parts.{IsGood};
 ghost use Rattle.coder_core.specs.InputFrames.{first_head, frame_at, input_frames};
-ghost use Rattle.coder_core.specs.SentCells.{frame_cells};
+ghost use Rattle.coder_core.specs.SentCells.{sent_frame};
 ghost use Rattle.coder_core.specs.CodeRefusals.{code_refusal, is_there, coded_frame};
-ghost use Rattle.seg_receiver.specs.CellStream.{first_version};
+ghost use Rattle.seg_receiver.specs.CellStream.{view_of, writing_of};
 ghost use Rattle.seg_receiver.specs.Received.{received};
-ghost use Rattle.seg_receiver.specs.Delivered.{SendsIn, delivered, ArePackets, IsNear, IsDelivered};
+ghost use Rattle.seg_receiver.specs.Delivered.{CanCarry, delivered, ArePackets, IsNear, IsDelivered};
 ghost use Rattle.seg_receiver.specs.Composed.{broadcast_stream, HaveSize};
 
 /// What `code` finds in the broadcast packets of a plan's frames, with switches or without, is what was multiplexed: the
@@ -34,14 +34,15 @@ pub fn found_law()
 
 /// So the cells that `code` writes of them are those of the plan and the packets.
 pub fn composed_law()
-    ensures frame { (p : Schedule) (frames : FramePackets) (count f : ℕ) → IsPlan p → HaveSize p frames count → f < count → coded_frame p (broadcast_stream p frames count) f ≡ frame_cells p frames f }
-    ensures stream { (p : Schedule) (frames : FramePackets) (count : ℕ) → IsPlan p → HaveSize p frames count → product (coded_frame p (broadcast_stream p frames count)) count ≡ product (frame_cells p frames) count }
+    ensures frame { (how : Writing) (p : Schedule) (frames : FramePackets) (count f : ℕ) → IsPlan p → HaveSize p frames count → f < count → coded_frame how p (broadcast_stream p frames count) f ≡ sent_frame how p frames f }
+    ensures stream { (how : Writing) (p : Schedule) (frames : FramePackets) (count : ℕ) → IsPlan p → HaveSize p frames count
+        → product (coded_frame how p (broadcast_stream p frames count)) count ≡ product (sent_frame how p frames) count }
 {}
 
 /// And they are received as the multiplexed packets, each put off by its layer's delay.
 pub fn headline_law()
-    ensures { (mode : Mode) (guard : Guard) (p : Schedule) (frames : FramePackets) (count : ℕ) → IsPlan p → SendsIn mode guard p count → ArePackets p frames count
-        → received (first_version mode guard (product (coded_frame p (product (broadcast p frames) count)) count)) count ≡ delivered p frames count }
+    ensures { (form : Form) (p : Schedule) (frames : FramePackets) (count : ℕ) → IsPlan p → CanCarry form p count → ArePackets p frames count
+        → received (view_of form (product (coded_frame (writing_of form) p (product (broadcast p frames) count)) count)) count ≡ delivered p frames count }
 {}
 
 /// The packets of the multiplex of inputs of whole packets with their sync bytes are packets of bytes, over switches too.
@@ -53,8 +54,8 @@ pub fn multiplexed_law()
 /// So what `remux` writes of such inputs, coded by `code`, is received as the multiplex of them, each layer's packets put off
 /// by its delay, for any number of frames.
 pub fn chain_law()
-    ensures { (mode : Mode) (guard : Guard) (p : Schedule) (input : Layer → List ℕ) (count : ℕ) → IsPlan p → SendsIn mode guard p count → ((x : Layer) → IsGood (input x)) → ((x : Layer) → IsBytes (input x))
-        → received (first_version mode guard (product (coded_frame p (product (written_frame p input) count)) count)) count ≡ delivered p (multiplexed p input) count }
+    ensures { (form : Form) (p : Schedule) (input : Layer → List ℕ) (count : ℕ) → IsPlan p → CanCarry form p count → ((x : Layer) → IsGood (input x)) → ((x : Layer) → IsBytes (input x))
+        → received (view_of form (product (coded_frame (writing_of form) p (product (written_frame p input) count)) count)) count ≡ delivered p (multiplexed p input) count }
 {}
 
 /// And `code` refuses no frame of what `remux` writes: of a plan's frames of packets, as many as its limit allows, it finds all
@@ -74,11 +75,10 @@ pub fn input_law()
 {}
 
 /// And whatever bytes `code` is given: the frames that it passes hold packets of bytes, and the cells that it writes of them are
-/// near these packets, for a plan that sends in one mode and with one guard interval. Where no packet bears the head it writes
-/// nothing.
+/// near these packets, in each version of the stream that can carry the plan. Where no packet bears the head it writes nothing.
 pub fn code_near_law()
-    ensures near { (mode : Mode) (guard : Guard) (p : Schedule) (input : List ℕ) (count limit head : ℕ) → IsPlan p → IsBytes input → ArePassed (code_refusal p input limit) (is_there p input) count → SendsIn mode guard p count → first_head input ≡ Some head
-        → ArePackets p (input_frames p input head) count × IsNear (first_version mode guard (product (coded_frame p input) count)) p (input_frames p input head) count }
-    ensures none { (p : Schedule) (input : List ℕ) (count limit : ℕ) → ArePassed (code_refusal p input limit) (is_there p input) count → first_head input ≡ None
-        → (count ≡ 0) × (product (coded_frame p input) count ≡ []) }
+    ensures near { (form : Form) (p : Schedule) (input : List ℕ) (count limit head : ℕ) → IsPlan p → IsBytes input → ArePassed (code_refusal p input limit) (is_there p input) count → CanCarry form p count → first_head input ≡ Some head
+        → ArePackets p (input_frames p input head) count × IsNear (view_of form (product (coded_frame (writing_of form) p input) count)) p (input_frames p input head) count }
+    ensures none { (how : Writing) (p : Schedule) (input : List ℕ) (count limit : ℕ) → ArePassed (code_refusal p input limit) (is_there p input) count → first_head input ≡ None
+        → (count ≡ 0) × (product (coded_frame how p input) count ≡ []) }
 {}

@@ -1,16 +1,15 @@
 //! Laws of what is received.
 
-ghost use Rattle.std.specs.Prelude.{◌≡◌, ℕ, ◌<◌, true, List};
-ghost use Rattle.isdbt_base.specs.declared.kinds.Mode.{Mode};
-ghost use Rattle.isdbt_base.specs.declared.kinds.Guard.{Guard};
+ghost use Rattle.std.specs.Prelude.{◌≡◌, ℕ, ◌<◌, true, List, length};
+ghost use Rattle.isdbt_base.specs.declared.stream.Form.{Form};
 ghost use Rattle.isdbt_base.specs.Plans.{Schedule, IsPlan, at_frame};
 ghost use Rattle.isdbt_base.specs.Frames.{FramePackets};
 ghost use Rattle.isdbt_base.specs.Outcome.{product};
-ghost use Rattle.coder_core.specs.SentCells.{frame_cells};
+ghost use Rattle.coder_core.specs.SentCells.{sent_frame};
 ghost use Rattle.remux_core.specs.Multiplex.{broadcast};
-ghost use Rattle.seg_receiver.specs.CellStream.{View, first_version, AreInRow, AgreeUpTo};
+ghost use Rattle.seg_receiver.specs.CellStream.{View, view_of, writing_of, AreInRow, AgreeUpTo};
 ghost use Rattle.seg_receiver.specs.Received.{received, received_frame, partial_frame, received_partial};
-ghost use Rattle.seg_receiver.specs.Delivered.{SendsIn, delivered, delivered_packets, delivered_partial_frame, delivered_partial, ArePackets, IsNear, IsNearPartial};
+ghost use Rattle.seg_receiver.specs.Delivered.{CanCarry, CanCarryPartial, delivered, delivered_packets, delivered_partial_frame, delivered_partial, ArePackets, IsNear, IsNearPartial};
 
 /// A view that is near the cells of a plan, with switches or without, is received as the plan's packets, each put off by
 /// its layer's delay: all frames, and each of them.
@@ -21,21 +20,21 @@ pub fn received_law()
         → (f : ℕ) → f < count → received_frame v f ≡ broadcast p (delivered_packets p frames) f }
 {}
 
-/// The cells of a plan that sends in one mode and with one guard interval are near it in the first version of the stream.
+/// The cells of a plan are near it in each version of the stream that can carry it.
 pub fn near_law()
-    ensures { (mode : Mode) (guard : Guard) (p : Schedule) (frames : FramePackets) (count : ℕ) → IsPlan p → SendsIn mode guard p count → ArePackets p frames count
-        → IsNear (first_version mode guard (product (frame_cells p frames) count)) p frames count }
+    ensures { (form : Form) (p : Schedule) (frames : FramePackets) (count : ℕ) → IsPlan p → CanCarry form p count → ArePackets p frames count
+        → IsNear (view_of form (product (sent_frame (writing_of form) p frames) count)) p frames count }
 {}
 
 /// A view that is near the cells of a plan with partial reception gives layer A's packets, from the words and the cells
-/// of segment 0 alone; and the cells of such a plan that sends in one mode are near it, whatever its guard intervals.
+/// of segment 0 alone; and the cells of such a plan are near it, whatever its guard intervals.
 pub fn partial_law()
     ensures near { (v : View) (p : Schedule) (frames : FramePackets) (count : ℕ) → IsPlan p → ArePackets p frames count → IsNearPartial v p frames count
         → received_partial v count ≡ delivered_partial p frames count }
     ensures each { (v : View) (p : Schedule) (frames : FramePackets) (count : ℕ) → IsPlan p → ArePackets p frames count → IsNearPartial v p frames count
         → (f : ℕ) → f < count → partial_frame v f ≡ delivered_partial_frame p frames f }
-    ensures clean { (mode : Mode) (guard : Guard) (p : Schedule) (frames : FramePackets) (count : ℕ) → IsPlan p → ((f : ℕ) → f < count → (at_frame p f).mode ≡ mode) → ArePackets p frames count
-        → ((f : ℕ) → f < count → (at_frame p f).setting.partial ≡ true) → IsNearPartial (first_version mode guard (product (frame_cells p frames) count)) p frames count }
+    ensures clean { (form : Form) (p : Schedule) (frames : FramePackets) (count : ℕ) → IsPlan p → CanCarryPartial form p count → ArePackets p frames count
+        → ((f : ℕ) → f < count → (at_frame p f).setting.partial ≡ true) → IsNearPartial (view_of form (product (sent_frame (writing_of form) p frames) count)) p frames count }
 {}
 
 /// An output frame needs its mode and guard interval, and the words and the cells of the frames up to it alone, whatever
@@ -44,7 +43,7 @@ pub fn prefix_law()
     ensures { (v w : View) (f : ℕ) → AgreeUpTo f v w → received_frame v f ≡ received_frame w f }
 {}
 
-/// Each frame of the first version of the stream ends where the next begins.
+/// Where a stream ends with a frame, each frame up to it ends where the next begins.
 pub fn row_law()
-    ensures { (mode : Mode) (guard : Guard) (stream : List ℕ) (count : ℕ) → AreInRow (first_version mode guard stream) count }
+    ensures { (form : Form) (stream : List ℕ) (count : ℕ) → length stream ≡ (view_of form stream).starts count → AreInRow (view_of form stream) count }
 {}

@@ -10,7 +10,7 @@ use Rattle.coder_core.proofs.coding.code_frames.Goals as goal
 pub loop-number-init : goal.loop-number-init
 loop-number-init g c = record {
   coder = λ same. c.requires.coder;
-  place = (let none = packets_before-zero c.args.plan.now in omega (arith, none, c.from-first_packet.ensures));
+  place = (let none = packets_before-zero c.args.sending.plan.now in omega (arith, none, c.from-first_packet.ensures));
   few = omega (arith, c.from-first_packet.ensures, c.requires.head);
   held_few = omega arith;
   held_later = λ less. absurd (omega (arith, less));
@@ -20,13 +20,13 @@ loop-number-init g c = record {
   shelf_kept = refl;
   sink_kept = refl;
   sink_room = refl;
-  told = λ input found. record { so_far = begin c.args.plan.now input c.args.span.limit c.args.span.head _ _ _ found; stands = λ same. c.requires.fresh _ };
+  told = λ input found. record { so_far = begin c.args.sending.how c.args.sending.plan.now input c.args.span.limit c.args.span.head _ _ _ found; stands = λ same. c.requires.fresh _ };
 }
 
 pub returns-in-Ok-false-clause-answer : goal.returns-in-Ok-false-clause-answer
 returns-in-Ok-false-clause-answer g c = λ input found.
     let now = c.loop-number.invariant in
-    let P : Bool → Type 0 = λ b. FrameAnswer c.args.plan.now input c.args.span.limit c.args.span.head c.loop-number.number c.code_frame.new.coder (vec_items c.code_frame.new.buffers.frame) (g.H.Shelf.left c.code_frame.new.shelf seats.In) (g.K.Sink.written c.args.sink.now) (g.K.Sink.written c.code_frame.new.sink) (Ok b) in
+    let P : Bool → Type 0 = λ b. FrameAnswer c.args.sending.how c.args.sending.plan.now input c.args.span.limit c.args.span.head c.loop-number.number c.code_frame.new.coder (vec_items c.code_frame.new.buffers.frame) (g.H.Shelf.left c.code_frame.new.shelf seats.In) (g.K.Sink.written c.args.sink.now) (g.K.Sink.written c.code_frame.new.sink) (Ok b) in
     subst P c.in-Ok-false.field-0-test (c.in-Ok-false.ensures.answer input c.args.span.limit c.args.span.head (g.K.Sink.written c.args.sink.now) c.loop-number-test.true now.place (now.told input found))
 
 pub returns-in-Err-clause-answer : goal.returns-in-Err-clause-answer
@@ -36,7 +36,8 @@ returns-in-Err-clause-answer g c = λ input found.
 
 pub loop-number-preserved : goal.loop-number-preserved
 loop-number-preserved g c =
-    let p = c.args.plan.now in
+    let how = c.args.sending.how in
+    let p = c.args.sending.plan.now in
     let f = c.loop-number.number in
     let now = c.loop-number.invariant in
     record {
@@ -52,7 +53,7 @@ loop-number-preserved g c =
       sink_kept = c.in-Ok-true.ensures.cause.1 ∙ now.sink_kept;
       sink_room = c.in-Ok-true.ensures.sink_room ∙ now.sink_room;
       told = λ input found. (
-          let P : Bool → Type 0 = λ b. FrameAnswer p input c.args.span.limit c.args.span.head f c.code_frame.new.coder (vec_items c.code_frame.new.buffers.frame) (g.H.Shelf.left c.code_frame.new.shelf seats.In) (g.K.Sink.written c.args.sink.now) (g.K.Sink.written c.code_frame.new.sink) (Ok b) in
+          let P : Bool → Type 0 = λ b. FrameAnswer how p input c.args.span.limit c.args.span.head f c.code_frame.new.coder (vec_items c.code_frame.new.buffers.frame) (g.H.Shelf.left c.code_frame.new.shelf seats.In) (g.K.Sink.written c.args.sink.now) (g.K.Sink.written c.code_frame.new.sink) (Ok b) in
           subst P c.in-Ok-true.field-0-test (c.in-Ok-true.ensures.answer input c.args.span.limit c.args.span.head (g.K.Sink.written c.args.sink.now) c.loop-number-test.true now.place (now.told input found)));
     }
 
@@ -61,18 +62,18 @@ returns-in-Ok-true-ends-clause-answer g c = λ input found.
     let end : c.loop-number.number ≡ c.args.span.limit = omega (arith, c.loop-number-test.false, c.loop-number.auto.number-end) in
     let so_far = (c.loop-number.invariant.told input found).so_far in
     let none : c.loop-number.held ≡ 0 = c.loop-number.invariant.held_later (omega (arith, end, c.requires.some)) in
-    let P : Bool → Type 0 = λ b. EndsAnswer (drop (frame_start c.args.plan.now c.args.span.head c.loop-number.number + c.loop-number.held) input) (g.H.Shelf.left c.ends.new.shelf seats.In) (Ok b) in
+    let P : Bool → Type 0 = λ b. EndsAnswer (drop (frame_start c.args.sending.plan.now c.args.span.head c.loop-number.number + c.loop-number.held) input) (g.H.Shelf.left c.ends.new.shelf seats.In) (Ok b) in
     let ends : P true = subst P c.in-Ok-true-ends.field-0-test (c.in-Ok-true-ends.ensures.answer _ so_far.left_is) in
-    ended_at_limit _ input _ _ _ _ _ _ _ _ _ none (rw end at so_far) refl (rw end at ends.0) ends.1
+    ended_at_limit _ _ input _ _ _ _ _ _ _ _ _ none (rw end at so_far) refl (rw end at ends.0) ends.1
 
 pub returns-in-Ok-false-ends-clause-answer : goal.returns-in-Ok-false-ends-clause-answer
 returns-in-Ok-false-ends-clause-answer g c = λ input found.
     let end : c.loop-number.number ≡ c.args.span.limit = omega (arith, c.loop-number-test.false, c.loop-number.auto.number-end) in
     let so_far = (c.loop-number.invariant.told input found).so_far in
     let none : c.loop-number.held ≡ 0 = c.loop-number.invariant.held_later (omega (arith, end, c.requires.some)) in
-    let P : Bool → Type 0 = λ b. EndsAnswer (drop (frame_start c.args.plan.now c.args.span.head c.loop-number.number + c.loop-number.held) input) (g.H.Shelf.left c.ends.new.shelf seats.In) (Ok b) in
+    let P : Bool → Type 0 = λ b. EndsAnswer (drop (frame_start c.args.sending.plan.now c.args.span.head c.loop-number.number + c.loop-number.held) input) (g.H.Shelf.left c.ends.new.shelf seats.In) (Ok b) in
     let ends : P false = subst P c.in-Ok-false-ends.field-0-test (c.in-Ok-false-ends.ensures.answer _ so_far.left_is) in
-    too_long _ input _ _ _ _ _ _ _ _ none (rw end at so_far) (rw end at ends.0) (rw end at ends.1)
+    too_long _ _ input _ _ _ _ _ _ _ _ none (rw end at so_far) (rw end at ends.0) (rw end at ends.1)
 
 pub returns-in-Err-ends-clause-answer : goal.returns-in-Err-ends-clause-answer
 returns-in-Err-ends-clause-answer g c = λ input found.
@@ -80,4 +81,4 @@ returns-in-Err-ends-clause-answer g c = λ input found.
     let so_far = (c.loop-number.invariant.told input found).so_far in
     let none : c.loop-number.held ≡ 0 = c.loop-number.invariant.held_later (omega (arith, end, c.requires.some)) in
     let ends = c.in-Err-ends.ensures.answer _ so_far.left_is in
-    stopped_at_limit _ input _ _ _ _ _ _ _ _ c.requires.some none (rw end at so_far) (rw end at ends)
+    stopped_at_limit _ _ input _ _ _ _ _ _ _ _ c.requires.some none (rw end at so_far) (rw end at ends)

@@ -11,16 +11,16 @@ pub returns-in-Ok-None-clause-answer : goal.returns-in-Ok-None-clause-answer
 returns-in-Ok-None-clause-answer g c = λ input told.
     let P : Option ℕ → Type 0 = λ o. SearchAnswer input c.find_head.new.packet (g.H.Shelf.left c.find_head.new.shelf seats.In) (Ok o) in
     let none : P None = subst P c.in-Ok-None.field-0-is (c.in-Ok-None.ensures.answer input told) in
-    empty_input _ input _ _ _ none.0 none.1
+    empty_input _ _ input _ _ _ none.0 none.1
 
 pub returns-in-Err-clause-answer : goal.returns-in-Err-clause-answer
 returns-in-Err-clause-answer g c = λ input told.
-    search_ended _ input _ c.find_head.new.packet _ _ c.in-Err.fault c.requires.some (c.in-Err.ensures.answer input told)
+    search_ended _ _ input _ c.find_head.new.packet _ _ c.in-Err.fault c.requires.some (c.in-Err.ensures.answer input told)
 
 pub put-requires : goal.put-requires
 put-requires g c =
-    let fits = frame_fits c.args.plan.now 0 c.args.buffers.now c.requires.has_room in
-    let some = slots-some c.args.plan.now 0 in
+    let fits = frame_fits c.args.sending.plan.now 0 c.args.buffers.now c.requires.has_room in
+    let some = slots-some c.args.sending.plan.now 0 in
     let size : length c.find_head.new.packet ≡ 204 = c.find_head.auto.packet in
     omega (arith, fits, some, size, c.deref_mut.ensures.len)
 

@@ -19,7 +19,7 @@ front-kept size most buffer old whole = ap (take size) (take_at buffer old most 
 
 pub take_frame-requires-clause-room : goal.take_frame-requires-clause-room
 take_frame-requires-clause-room g c =
-    let fits = frame_fits c.args.plan.now c.args.place.number c.args.buffers.now c.requires.room in
+    let fits = frame_fits c.args.sending.plan.now c.args.place.number c.args.buffers.now c.requires.room in
     omega (arith, fits, c.deref_mut.ensures.len)
 
 pub returns-in-Ok-false-clause-kept : goal.returns-in-Ok-false-clause-kept
@@ -39,47 +39,51 @@ returns-in-Err-write_cells-clause-kept g c = record { frame = c.requires.room.fr
 
 pub returns-in-Ok-false-clause-answer : goal.returns-in-Ok-false-clause-answer
 returns-in-Ok-false-clause-answer g c = λ input limit head first less place at.
-    let p = c.args.plan.now in
+    let how = c.args.sending.how in
+    let p = c.args.sending.plan.now in
     let f = c.args.place.number in
     let now = g.K.Sink.written c.args.sink.now in
-    let P : List ℕ → Type 0 = λ xs. Progress p input limit head f c.args.place.held xs (g.H.Shelf.left c.args.shelf.now seats.In) first now in
+    let P : List ℕ → Type 0 = λ xs. Progress how p input limit head f c.args.place.held xs (g.H.Shelf.left c.args.shelf.now seats.In) first now in
     let so_far : P c.deref_mut.result.now = subst P (sym c.deref_mut.ensures.value) at.so_far in
     let frame = take (204 * slots_at p f) c.take_frame.new.buffer in
     let left' = g.H.Shelf.left c.take_frame.new.shelf seats.In in
-    let Q : Bool → Type 0 = λ b. TakeAnswer p input limit head f frame left' first now (Ok b) in
-    subst Q c.in-Ok-false.field-0-test (c.in-Ok-false.ensures.answer input limit head first now less place so_far)
+    let Q : Bool → Type 0 = λ b. TakeAnswer how p input limit head f frame left' first now (Ok b) in
+    subst Q c.in-Ok-false.field-0-test (c.in-Ok-false.ensures.answer how input limit head first now less place so_far)
 
 pub returns-in-Err-clause-answer : goal.returns-in-Err-clause-answer
 returns-in-Err-clause-answer g c = λ input limit head first less place at.
-    let p = c.args.plan.now in
+    let how = c.args.sending.how in
+    let p = c.args.sending.plan.now in
     let f = c.args.place.number in
     let now = g.K.Sink.written c.args.sink.now in
-    let P : List ℕ → Type 0 = λ xs. Progress p input limit head f c.args.place.held xs (g.H.Shelf.left c.args.shelf.now seats.In) first now in
+    let P : List ℕ → Type 0 = λ xs. Progress how p input limit head f c.args.place.held xs (g.H.Shelf.left c.args.shelf.now seats.In) first now in
     let so_far : P c.deref_mut.result.now = subst P (sym c.deref_mut.ensures.value) at.so_far in
-    c.in-Err.ensures.answer input limit head first now less place so_far
+    c.in-Err.ensures.answer how input limit head first now less place so_far
 
 pub returns-in-Err-turn_to-clause-answer : goal.returns-in-Err-turn_to-clause-answer
 returns-in-Err-turn_to-clause-answer g c = λ input limit head first less place at.
-    let p = c.args.plan.now in
+    let how = c.args.sending.how in
+    let p = c.args.sending.plan.now in
     let f = c.args.place.number in
     let now = g.K.Sink.written c.args.sink.now in
-    let P : List ℕ → Type 0 = λ xs. Progress p input limit head f c.args.place.held xs (g.H.Shelf.left c.args.shelf.now seats.In) first now in
+    let P : List ℕ → Type 0 = λ xs. Progress how p input limit head f c.args.place.held xs (g.H.Shelf.left c.args.shelf.now seats.In) first now in
     let so_far : P c.deref_mut.result.now = subst P (sym c.deref_mut.ensures.value) at.so_far in
     let frame = take (204 * slots_at p f) c.take_frame.new.buffer in
     let left' = g.H.Shelf.left c.take_frame.new.shelf seats.In in
-    let Q : Bool → Type 0 = λ b. TakeAnswer p input limit head f frame left' first now (Ok b) in
-    let taken : Q true = subst Q c.in-Ok-true.field-0-test (c.in-Ok-true.ensures.answer input limit head first now less place so_far) in
-    inr (wants_memory p input limit head f frame left' first now c.in-Err-turn_to.ensures.opens taken)
+    let Q : Bool → Type 0 = λ b. TakeAnswer how p input limit head f frame left' first now (Ok b) in
+    let taken : Q true = subst Q c.in-Ok-true.field-0-test (c.in-Ok-true.ensures.answer how input limit head first now less place so_far) in
+    inr (wants_memory how p input limit head f frame left' first now c.in-Err-turn_to.ensures.opens taken)
 
 pub slice_bounds-frame-end : goal.slice_bounds-frame-end
 slice_bounds-frame-end g c =
-    let room = frame_fits c.args.plan.now c.args.place.number c.args.buffers.now c.requires.room in
+    let room = frame_fits c.args.sending.plan.now c.args.place.number c.args.buffers.now c.requires.room in
     let len : length c.deref.result.now ≡ vec_len c.args.buffers.now.frame = c.deref.ensures.len in
     sym (length-take-le (204 * c.slots_at.result) c.deref.result.now (omega (arith, room, len, c.slots_at.ensures.value)))
 
 pub write_cells-requires-clause-size : goal.write_cells-requires-clause-size
 write_cells-requires-clause-size g c =
-    let p = c.args.plan.now in
+    let how = c.args.sending.how in
+    let p = c.args.sending.plan.now in
     let f = c.args.place.number in
     let c' = c.turn_to.new.coder in
     let of = c.in-Ok.ensures.of_frame in
@@ -90,7 +94,8 @@ write_cells-requires-clause-size g c =
 
 pub write_cells-requires-clause-codable : goal.write_cells-requires-clause-codable
 write_cells-requires-clause-codable g c =
-    let p = c.args.plan.now in
+    let how = c.args.sending.how in
+    let p = c.args.sending.plan.now in
     let f = c.args.place.number in
     let buffer = c.take_frame.new.buffer in
     let most = vec_len c.args.buffers.now.frame in
@@ -107,7 +112,8 @@ write_cells-requires-clause-codable g c =
 
 pub write_cells-requires-clause-room : goal.write_cells-requires-clause-room
 write_cells-requires-clause-room g c =
-    let p = c.args.plan.now in
+    let how = c.args.sending.how in
+    let p = c.args.sending.plan.now in
     let f = c.args.place.number in
     let room = cells_fit p f c.args.buffers.now c.requires.room in
     omega (arith, room, c.deref_mut-2.ensures.len)
@@ -115,19 +121,20 @@ write_cells-requires-clause-room g c =
 pub returns-in-Ok-write_cells-clause-next_coder : goal.returns-in-Ok-write_cells-clause-next_coder
 returns-in-Ok-write_cells-clause-next_coder g c = λ _ same.
     let w = c.in-Ok-write_cells.ensures in
-    of_next c.turn_to.new.coder c.write_cells.new.coder c.args.plan.now c.args.place.number c.acceptance_law.ensures w.mode_kept w.guard w.setting c.in-Ok.ensures.of_frame same
+    of_next c.turn_to.new.coder c.write_cells.new.coder c.args.sending.plan.now c.args.place.number c.acceptance_law.ensures w.mode_kept w.guard w.setting c.in-Ok.ensures.of_frame same
 
 pub returns-in-Ok-write_cells-clause-answer : goal.returns-in-Ok-write_cells-clause-answer
 returns-in-Ok-write_cells-clause-answer g c = λ input limit head first less place at.
-    let p = c.args.plan.now in
+    let how = c.args.sending.how in
+    let p = c.args.sending.plan.now in
     let f = c.args.place.number in
     let now = g.K.Sink.written c.args.sink.now in
-    let P : List ℕ → Type 0 = λ xs. Progress p input limit head f c.args.place.held xs (g.H.Shelf.left c.args.shelf.now seats.In) first now in
+    let P : List ℕ → Type 0 = λ xs. Progress how p input limit head f c.args.place.held xs (g.H.Shelf.left c.args.shelf.now seats.In) first now in
     let so_far : P c.deref_mut.result.now = subst P (sym c.deref_mut.ensures.value) at.so_far in
     let frame = take (204 * slots_at p f) c.take_frame.new.buffer in
     let left' = g.H.Shelf.left c.take_frame.new.shelf seats.In in
-    let Q : Bool → Type 0 = λ b. TakeAnswer p input limit head f frame left' first now (Ok b) in
-    let taken : Q true = subst Q c.in-Ok-true.field-0-test (c.in-Ok-true.ensures.answer input limit head first now less place so_far) in
+    let Q : Bool → Type 0 = λ b. TakeAnswer how p input limit head f frame left' first now (Ok b) in
+    let taken : Q true = subst Q c.in-Ok-true.field-0-test (c.in-Ok-true.ensures.answer how input limit head first now less place so_far) in
     let buffer = c.take_frame.new.buffer in
     let most = vec_len c.args.buffers.now.frame in
     let len : length buffer ≡ most = c.take_frame.auto.buffer ∙ c.deref_mut.ensures.len in
@@ -139,22 +146,23 @@ returns-in-Ok-write_cells-clause-answer g c = λ input limit head first less pla
     let frames = input_frames p input head in
     let start = (at_frame p f).start in
     let stands = c.in-Ok.ensures.stands frames at.stands in
-    let is = subst (λ (xs : List ℕ). IsFrameOf (setting_of c') (mode_of c') xs frames (start + (f - start))) (sym held) (is_frame p input limit head f frame left' first now (setting_of c') (mode_of c') taken) in
-    let cells = cells_are c' p input head f taken.found of in
-    let wrote = wrote_all _ (coded_frame p input f) now after cells (c.in-Ok-write_cells.ensures.ok frames start (f - start) stands is) in
-    coded p input limit head f c.write_cells.new.coder frame _ left' first now after c.acceptance_law.ensures taken wrote (c.in-Ok-write_cells.ensures.state frames start (f - start) stands is)
+    let is = subst (λ (xs : List ℕ). IsFrameOf (setting_of c') (mode_of c') xs frames (start + (f - start))) (sym held) (is_frame how p input limit head f frame left' first now (setting_of c') (mode_of c') taken) in
+    let cells = cells_are c' how p input head f taken.found of in
+    let wrote = wrote_all _ (coded_frame how p input f) now after cells (c.in-Ok-write_cells.ensures.ok frames start (f - start) stands is) in
+    coded how p input limit head f c.write_cells.new.coder frame _ left' first now after c.acceptance_law.ensures taken wrote (c.in-Ok-write_cells.ensures.state frames start (f - start) stands is)
 
 pub returns-in-Err-write_cells-clause-answer : goal.returns-in-Err-write_cells-clause-answer
 returns-in-Err-write_cells-clause-answer g c = λ input limit head first less place at.
-    let p = c.args.plan.now in
+    let how = c.args.sending.how in
+    let p = c.args.sending.plan.now in
     let f = c.args.place.number in
     let now = g.K.Sink.written c.args.sink.now in
-    let P : List ℕ → Type 0 = λ xs. Progress p input limit head f c.args.place.held xs (g.H.Shelf.left c.args.shelf.now seats.In) first now in
+    let P : List ℕ → Type 0 = λ xs. Progress how p input limit head f c.args.place.held xs (g.H.Shelf.left c.args.shelf.now seats.In) first now in
     let so_far : P c.deref_mut.result.now = subst P (sym c.deref_mut.ensures.value) at.so_far in
     let frame = take (204 * slots_at p f) c.take_frame.new.buffer in
     let left' = g.H.Shelf.left c.take_frame.new.shelf seats.In in
-    let Q : Bool → Type 0 = λ b. TakeAnswer p input limit head f frame left' first now (Ok b) in
-    let taken : Q true = subst Q c.in-Ok-true.field-0-test (c.in-Ok-true.ensures.answer input limit head first now less place so_far) in
+    let Q : Bool → Type 0 = λ b. TakeAnswer how p input limit head f frame left' first now (Ok b) in
+    let taken : Q true = subst Q c.in-Ok-true.field-0-test (c.in-Ok-true.ensures.answer how input limit head first now less place so_far) in
     let buffer = c.take_frame.new.buffer in
     let most = vec_len c.args.buffers.now.frame in
     let len : length buffer ≡ most = c.take_frame.auto.buffer ∙ c.deref_mut.ensures.len in
@@ -166,8 +174,8 @@ returns-in-Err-write_cells-clause-answer g c = λ input limit head first less pl
     let frames = input_frames p input head in
     let start = (at_frame p f).start in
     let stands = c.in-Ok.ensures.stands frames at.stands in
-    let is = subst (λ (xs : List ℕ). IsFrameOf (setting_of c') (mode_of c') xs frames (start + (f - start))) (sym held) (is_frame p input limit head f frame left' first now (setting_of c') (mode_of c') taken) in
-    let cells = cells_are c' p input head f taken.found of in
+    let is = subst (λ (xs : List ℕ). IsFrameOf (setting_of c') (mode_of c') xs frames (start + (f - start))) (sym held) (is_frame how p input limit head f frame left' first now (setting_of c') (mode_of c') taken) in
+    let cells = cells_are c' how p input head f taken.found of in
     let failed = c.in-Err-write_cells.ensures.some frames start (f - start) stands is in
-    let part = wrote_some _ (coded_frame p input f) failed.0 now after cells failed.1 failed.2 in
-    write_failed p input limit head f failed.0 frame left' first now after taken part.0 part.1
+    let part = wrote_some _ (coded_frame how p input f) failed.0 now after cells failed.1 failed.2 in
+    write_failed how p input limit head f failed.0 frame left' first now after taken part.0 part.1
