@@ -169,5 +169,6 @@ pub fn code<H: Shelf, K: Sink>(
     let Ok(mut buffers) = CodeBuffers::open(alloc, plan) else {
         return Err(CodeFault::NoMemory);
     };
-    code_within(alloc, Sending { plan, how }, limit, &mut buffers, shelf, sink)
+    let sending = Sending { plan, how };
+    code_within(alloc, sending, limit, &mut buffers, shelf, sink)
 }

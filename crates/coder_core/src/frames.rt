@@ -185,7 +185,11 @@ fn write_cells<K: Sink>(
 {
     let head = put_head(sending, number, buffer);
     let end = head + SYMBOLS * symbol_size(sending.plan.at(number).mode);
-    coder.frame(frame, &word_at(sending.plan, number), &mut buffer[head..end]);
+    coder.frame(
+        frame,
+        &word_at(sending.plan, number),
+        &mut buffer[head..end],
+    );
     write_whole(sink, &buffer[..end])
 }
 
@@ -229,14 +233,7 @@ pub fn code_frame<H: Shelf, K: Sink>(
     }
     let size = BROADCAST_BYTES * slots_at(sending.plan, number) as usize;
     let frame = &buffers.frame[..size];
-    match write_cells(
-        sending,
-        coder,
-        number,
-        frame,
-        &mut buffers.cells,
-        sink,
-    ) {
+    match write_cells(sending, coder, number, frame, &mut buffers.cells, sink) {
         Ok(()) => Ok(true),
         Err(Failed) => Err(CodeFault::WriteFault),
     }
