@@ -167,7 +167,7 @@ some_accepted p frames count limit plan packets room some =
 
 pub accepted-broadcast : (p : Schedule) (frames : FramePackets) (count limit : ℕ) → IsPlan p → ArePackets p frames count → count ≤ limit
     → IsOutcome (code_refusal p (product (broadcast p frames) count) limit) (is_there p (product (broadcast p frames) count)) count None
-accepted-broadcast p frames zero limit plan packets room = (empty_input p (product (broadcast p frames) 0) limit (Some []) None (product-none (broadcast p frames)) refl).ended.outcome
+accepted-broadcast p frames zero limit plan packets room = (empty_input (record { v2 = false }) p (product (broadcast p frames) 0) limit (Some []) None (product-none (broadcast p frames)) refl).ended.outcome
 accepted-broadcast p frames (suc n) limit plan packets room = some_accepted p frames (suc n) limit plan packets room (omega arith)
 
 pub accepted-written : (p : Schedule) (input : Layer → List ℕ) (count limit : ℕ) → IsPlan p → ((x : Layer) → IsGood (input x)) → ((x : Layer) → IsBytes (input x)) → count ≤ limit

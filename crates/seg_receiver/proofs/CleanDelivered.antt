@@ -4,7 +4,7 @@ use Rattle.std.proofs.Math.Nat.{mul-add-div_right, mul-add-mod_self_right}
 use Rattle.std.proofs.lemmas.Nat.{div_below, mod_below, div-mul-add, mod-mul-add}
 use Rattle.std.proofs.lemmas.Bool.{eq-eqb}
 use Rattle.isdbt_base.specs.declared.kinds.Mode.{Mode}
-use Rattle.isdbt_base.specs.declared.kinds.Guard.{Guard}
+use Rattle.isdbt_base.specs.declared.stream.Form.{Form}
 use Rattle.isdbt_base.specs.declared.kinds.Layer.{Layer}
 use Rattle.isdbt_base.specs.declared.kinds.Layer.TheVariants.{A, B, C}
 use Rattle.isdbt_base.specs.LayerParameters.{LayerParameters, HasSegments}
@@ -22,14 +22,13 @@ use Rattle.layer_chain.specs.LayerCells.{cell_bits_at}
 use Rattle.layer_chain.proofs.CellNumbers.{cell_bits_at-lt}
 use Rattle.layer_chain.proofs.CleanWords.{clean_word}
 use Rattle.layer_chain.proofs.StableWords.{unit_word-same}
-use Rattle.coder_core.specs.SentCells.{epoch_packet, layer_cell_at, epoch_cell, frame_cells}
+use Rattle.coder_core.specs.SentCells.{epoch_packet, layer_cell_at, epoch_cell, sent_frame}
 use Rattle.isdbt_base.proofs.PlanEpochs.{epoch_start-le, same_epoch, setting_accepted}
 use Rattle.coder_core.proofs.SegmentCells.{carriers-positive, layer-symbol_cell}
-use Rattle.seg_receiver.specs.CellStream.{stream_cell, View, first_version}
+use Rattle.seg_receiver.specs.CellStream.{View, view_of, writing_of}
 use Rattle.seg_receiver.specs.Received.{place_bits}
-use Rattle.seg_receiver.specs.Delivered.{SendsIn, into_epoch, ArePackets, outer_word_in, AreWordsNear, IsNear, IsNearPartial}
-use Rattle.seg_receiver.proofs.PlanModes.{SendsMode, PacketsIn, packets_in, plan_cells, cells-in}
-use Rattle.seg_receiver.proofs.StreamLaws.{length-plan_cells, stream_word-plan, stream_cell-plan}
+use Rattle.seg_receiver.specs.Delivered.{CanCarry, CanCarryPartial, into_epoch, ArePackets, outer_word_at, AreWordsNear, IsNear, IsNearPartial}
+use Rattle.seg_receiver.proofs.PlanViews.{ShowsPlan, shows_partial, carries_partial, shows_guards}
 
 -- ---- layers and segments
 
@@ -63,11 +62,12 @@ epoch_cell-of mode s frames start y x l w used h =
     ∙ layer-symbol_cell mode s frames start y x l w used h
 
 -- what is read of the frames up to f of an epoch is what was sent
-place_bits-plan : (mode : Mode) (p : Schedule) (frames : FramePackets) (count f : ℕ) (x : Layer) (l : LayerParameters) (y w : ℕ) → IsPlan p → f < count → layer_of (at_frame p f).setting x ≡ Some l →
-    y < 204 * (into_epoch p f + 1) → w < layer_cells mode l →
-    place_bits mode l (stream_cell mode (plan_cells mode p frames count)) (at_frame p f).start (first_segment (at_frame p f).setting x) y w
-    ≡ cell_bits_at mode l (layer_coded_bit mode l (epoch_packet mode l frames (at_frame p f).start x)) y w
-place_bits-plan mode p frames count f x l y w plan h used ly lw =
+place_bits-plan : (v : View) (p : Schedule) (frames : FramePackets) (count f : ℕ) (x : Layer) (l : LayerParameters) (y w : ℕ) → IsPlan p → ShowsPlan v p frames count → f < count → layer_of (at_frame p f).setting x ≡ Some l →
+    y < 204 * (into_epoch p f + 1) → w < layer_cells (at_frame p f).mode l →
+    place_bits (at_frame p f).mode l v.cell (at_frame p f).start (first_segment (at_frame p f).setting x) y w
+    ≡ cell_bits_at (at_frame p f).mode l (layer_coded_bit (at_frame p f).mode l (epoch_packet (at_frame p f).mode l frames (at_frame p f).start x)) y w
+place_bits-plan v p frames count f x l y w plan shows h used ly lw =
+    let mode = (at_frame p f).mode in
     let s = (at_frame p f).setting in
     let start = (at_frame p f).start in
     let first = first_segment s x in
@@ -76,8 +76,10 @@ place_bits-plan mode p frames count f x l y w plan h used ly lw =
     let before = epoch_start-le p f in
     let same = same_epoch p g f plan (omega (arith, before)) (omega arith) in
     let row : w / c < l.segments = div_below w c l.segments (carriers-positive mode) lw in
+    let segment = segment-lt s x l (w / c) (setting_accepted p f plan) used row in
     ap (bits_of l.modulation) (
-    stream_cell-plan mode p frames count g (y % 204) (first + w / c) (w % c) (omega (arith, before)) (omega arith) (segment-lt s x l (w / c) (setting_accepted p f plan) used row) (mod_below w c (carriers-positive mode))
+    shows.cells g (y % 204) (first + w / c) (w % c) (omega (arith, before, h, ly)) (omega arith) segment (subst (λ m. w % c < carriers m) (sym same.mode) (mod_below w c (carriers-positive mode)))
+    ∙ ap (λ m. epoch_cell m (at_frame p g).setting frames (at_frame p g).start (204 * (g - (at_frame p g).start) + y % 204) (first + w / c) (w % c)) same.mode
     ∙ ap (λ u. epoch_cell mode u frames (at_frame p g).start (204 * (g - (at_frame p g).start) + y % 204) (first + w / c) (w % c)) same.setting
     ∙ ap (λ u. epoch_cell mode s frames u (204 * (g - u) + y % 204) (first + w / c) (w % c)) same.start
     ∙ ap (λ z. epoch_cell mode s frames start z (first + w / c) (w % c)) (let e : 204 * (start + y / 204 - start) + y % 204 ≡ y = omega arith in e)
@@ -92,9 +94,10 @@ differing-self [] = refl
 differing-self (x ∷ xs) = rw (eq-eqb x x refl) (differing-self xs)
 
 -- each outer word of the plan's cells is its packet's codeword
-outer_word-plan : (mode : Mode) (p : Schedule) (frames : FramePackets) (count : ℕ) (x : Layer) → IsPlan p → PacketsIn mode p frames count → (f j : ℕ) (l : LayerParameters) → f < count → layer_of (at_frame p f).setting x ≡ Some l →
-    layer_delay mode l ≤ into_epoch p f → j < packets_per_frame mode l → outer_word_in mode (stream_cell mode (plan_cells mode p frames count)) p l x f j ≡ codeword_of 16 (frames (f - layer_delay mode l) x j)
-outer_word-plan mode p frames count x plan packets f j l h used late k =
+outer_word-plan : (v : View) (p : Schedule) (frames : FramePackets) (count : ℕ) (x : Layer) → IsPlan p → ArePackets p frames count → ShowsPlan v p frames count → (f j : ℕ) (l : LayerParameters) → f < count → layer_of (at_frame p f).setting x ≡ Some l
+    → layer_delay (at_frame p f).mode l ≤ into_epoch p f → j < packets_per_frame (at_frame p f).mode l → outer_word_at v p l x f j ≡ codeword_of 16 (frames (f - layer_delay (at_frame p f).mode l) x j)
+outer_word-plan v p frames count x plan packets shows f j l h used late k =
+    let mode = (at_frame p f).mode in
     let s = (at_frame p f).setting in
     let start = (at_frame p f).start in
     let t = packets_per_frame mode l in
@@ -105,49 +108,39 @@ outer_word-plan mode p frames count x plan packets f j l h used late k =
     let frame : start + m / t ≡ g = (let e = div-mul-add (into_epoch p f - layer_delay mode l) t j k in omega (arith, e, before, late)) in
     let is : packet m ≡ frames g x j = ap (λ n. frames n x (m % t)) frame ∙ ap (frames g x) (mod-mul-add (into_epoch p f - layer_delay mode l) t j k) in
     let epoch = same_epoch p g f plan (omega arith) (omega (arith, late, before)) in
-    let fine = packets g j x l (omega (arith, h)) (ap (λ u. layer_of u x) epoch.setting ∙ used) k in
+    let fine = packets g j x l (omega (arith, h)) (ap (λ u. layer_of u x) epoch.setting ∙ used) (subst (λ m. j < packets_per_frame m l) (sym epoch.mode) k) in
     let word = clean_word mode l packet m (subst IsPacket (sym is) fine.0) (subst IsBytes (sym is) fine.1) in
-    unit_word-same mode l (place_bits mode l (stream_cell mode (plan_cells mode p frames count)) start (first_segment s x)) (cell_bits_at mode l (layer_coded_bit mode l packet)) (into_epoch p f) j
-    (has_segments s x l (setting_accepted p f plan) used) late k (λ y w ly lw. place_bits-plan mode p frames count f x l y w plan h used ly lw)
+    unit_word-same mode l (place_bits mode l v.cell start (first_segment s x)) (cell_bits_at mode l (layer_coded_bit mode l packet)) (into_epoch p f) j
+    (has_segments s x l (setting_accepted p f plan) used) late k (λ y w ly lw. place_bits-plan v p frames count f x l y w plan shows h used ly lw)
     ∙ word ∙ ap (codeword_of 16) is
 
--- ---- the cells of a plan are near it
+-- ---- a view that shows a plan is near it
 
-module _ (mode : Mode) (guard : Guard) (p : Schedule) (frames : FramePackets) (count : ℕ) where
-  abbrev Plain : View
-  Plain = first_version mode guard (plan_cells mode p frames count)
+words-near : (v : View) (p : Schedule) (frames : FramePackets) (count : ℕ) → IsPlan p → ArePackets p frames count → ShowsPlan v p frames count → (x : Layer) → AreWordsNear v p frames count x
+words-near v p frames count plan packets shows x f j l h used late k =
+    let sent = codeword_of 16 (frames (f - layer_delay (at_frame p f).mode l) x j) in
+    let e = ap (λ word. differing word sent) (outer_word-plan v p frames count x plan packets shows f j l h used late k) ∙ differing-self sent in omega (arith, e)
 
-  words-near : IsPlan p → SendsMode mode p count → ArePackets p frames count → (x : Layer) → AreWordsNear Plain p frames count x
-  words-near plan sends packets x f j l h used late k =
-      let cell = stream_cell mode (plan_cells mode p frames count) in
-      let P : Mode → Type 0 = λ m. layer_delay m l ≤ into_epoch p f → j < packets_per_frame m l → differing (outer_word_in m cell p l x f j) (codeword_of 16 (frames (f - layer_delay m l) x j)) ≤ 8 in
-      let at : P mode = λ late k.
-      (let e = ap (λ word. differing word (codeword_of 16 (frames (f - layer_delay mode l) x j))) (outer_word-plan mode p frames count x plan (packets_in mode p frames count sends packets) f j l h used late k) ∙ differing-self (codeword_of 16 (frames (f - layer_delay mode l) x j)) in omega (arith, e)) in
-      subst P (sym (sends f h)) at late k
+pub plan_cells-near : (form : Form) (p : Schedule) (frames : FramePackets) (count : ℕ) → IsPlan p → CanCarry form p count → ArePackets p frames count
+    → IsNear (view_of form (product (sent_frame (writing_of form) p frames) count)) p frames count
+plan_cells-near form p frames count plan carries packets =
+    let shows = shows_partial p frames count form (carries_partial p frames count form carries) in
+    record {
+      whole = shows.whole;
+      modes = shows.modes;
+      guards = shows_guards p frames count form carries;
+      words = shows.words;
+      close = words-near _ p frames count plan packets shows;
+    }
 
-  cells-near : IsPlan p → SendsIn mode guard p count → ArePackets p frames count → IsNear Plain p frames count
-  cells-near plan sends packets = record {
-    whole = length-plan_cells mode p frames count;
-    modes = λ f h. sym (sends f h).0;
-    guards = λ f h. sym (sends f h).1;
-    words = stream_word-plan mode p frames count;
-    close = words-near plan (λ f h. (sends f h).0) packets;
-  }
-
-  cells-near_partial : IsPlan p → SendsMode mode p count → ArePackets p frames count → ((f : ℕ) → f < count → (at_frame p f).setting.partial ≡ true) → IsNearPartial Plain p frames count
-  cells-near_partial plan sends packets partial = record {
-    whole = length-plan_cells mode p frames count;
-    modes = λ f h. sym (sends f h);
-    words = stream_word-plan mode p frames count;
-    close = words-near plan sends packets A;
-    partial = partial;
-  }
-
-  pub plan_cells-near : IsPlan p → SendsIn mode guard p count → ArePackets p frames count → IsNear (first_version mode guard (product (frame_cells p frames) count)) p frames count
-  plan_cells-near plan sends packets =
-      subst (λ stream. IsNear (first_version mode guard stream) p frames count) (sym (cells-in mode p frames count (λ f h. (sends f h).0))) (cells-near plan sends packets)
-
-  pub plan_cells-near_partial : IsPlan p → SendsMode mode p count → ArePackets p frames count → ((f : ℕ) → f < count → (at_frame p f).setting.partial ≡ true)
-      → IsNearPartial (first_version mode guard (product (frame_cells p frames) count)) p frames count
-  plan_cells-near_partial plan sends packets partial =
-      subst (λ stream. IsNearPartial (first_version mode guard stream) p frames count) (sym (cells-in mode p frames count sends)) (cells-near_partial plan sends packets partial)
+pub plan_cells-near_partial : (form : Form) (p : Schedule) (frames : FramePackets) (count : ℕ) → IsPlan p → CanCarryPartial form p count → ArePackets p frames count → ((f : ℕ) → f < count → (at_frame p f).setting.partial ≡ true)
+    → IsNearPartial (view_of form (product (sent_frame (writing_of form) p frames) count)) p frames count
+plan_cells-near_partial form p frames count plan carries packets partial =
+    let shows = shows_partial p frames count form carries in
+    record {
+      whole = shows.whole;
+      modes = shows.modes;
+      words = shows.words;
+      close = words-near _ p frames count plan packets shows A;
+      partial = partial;
+    }

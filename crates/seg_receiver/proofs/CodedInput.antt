@@ -5,8 +5,8 @@ use Rattle.std.proofs.lemmas.Option.{none-some}
 use Rattle.std.proofs.lemmas.List.{length-take-le, get_or-take}
 use Rattle.std.proofs.lemmas.List.Elements.{All-take, All-drop, All-filter}
 use Rattle.std.proofs.lemmas.List.FromFn.{length-range_with_len, get_or-range_with_len}
-use Rattle.isdbt_base.specs.declared.kinds.Mode.{Mode}
-use Rattle.isdbt_base.specs.declared.kinds.Guard.{Guard}
+use Rattle.isdbt_base.specs.declared.stream.Writing.{Writing}
+use Rattle.isdbt_base.specs.declared.stream.Form.{Form}
 use Rattle.isdbt_base.specs.declared.kinds.Layer.{Layer}
 use Rattle.isdbt_base.specs.Parameters.{number_of}
 use Rattle.isdbt_base.specs.Numbers.{packets_per_frame}
@@ -20,13 +20,13 @@ use Rattle.coder_core.specs.declared.fault.CodeFault.TheVariants.{TooLong}
 use Rattle.coder_core.specs.FrameChecks.{information_in, layer_slots, slots_of, same_layer, layer_count, bad_sync_slot, refusal, CanCode}
 use Rattle.bts_info.specs.Information.{layer_named}
 use Rattle.coder_core.specs.InputFrames.{first_head, slots_at, packets_before, frame_start, frame_at, packet_in, input_frames}
-use Rattle.coder_core.specs.SentCells.{frame_cells}
+use Rattle.coder_core.specs.SentCells.{sent_frame}
 use Rattle.coder_core.specs.CodeRefusals.{search_refusal, has_byte_of, truncated, frame_refusal, refusal_from, code_refusal, there_from, is_there, frames_from, coded_frame}
 use Rattle.coder_core.proofs.Codable.{can_code}
 use Rattle.coder_core.proofs.Gathered.{synced}
 use Rattle.coder_core.proofs.FoundHead.{there-found}
-use Rattle.seg_receiver.specs.CellStream.{first_version}
-use Rattle.seg_receiver.specs.Delivered.{SendsIn, ArePackets, IsNear}
+use Rattle.seg_receiver.specs.CellStream.{view_of, writing_of}
+use Rattle.seg_receiver.specs.Delivered.{CanCarry, ArePackets, IsNear}
 use Rattle.seg_receiver.proofs.FoundFrames.{product-same}
 use Rattle.seg_receiver.proofs.CleanDelivered.{plan_cells-near}
 
@@ -101,18 +101,20 @@ module _ (p : Schedule) (input : List ℕ) (limit head count : ℕ) (found : fir
       let counted : layer_count frame x ≡ packets_per_frame (at_frame p f).mode l = codable.counts x ∙ ap (number_of (packets_per_frame (at_frame p f).mode)) used in
       (packet-is frame x j codable.sync (omega (arith, counted, k)), packet-bytes frame x j (All-take (λ b. b < 256) (204 * slots_at p f) (drop (frame_start p head f) input) (All-drop (λ b. b < 256) (frame_start p head f) input bytes)))
 
-coded-is : (p : Schedule) (input : List ℕ) (head f : ℕ) → first_head input ≡ Some head → coded_frame p input f ≡ frame_cells p (input_frames p input head) f
+coded-is : (how : Writing) (p : Schedule) (input : List ℕ) (head f : ℕ) → first_head input ≡ Some head → coded_frame how p input f ≡ sent_frame how p (input_frames p input head) f
 unfolding coded_frame
-coded-is p input head f found = ap (λ o. frame_cells p (frames_from p input o) f) found
+coded-is how p input head f found = ap (λ o. sent_frame how p (frames_from p input o) f) found
 
 -- what is written of an input is near
-pub coded-near : (mode : Mode) (guard : Guard) (p : Schedule) (input : List ℕ) (count limit head : ℕ) → IsPlan p → IsBytes input → ArePassed (code_refusal p input limit) (is_there p input) count → SendsIn mode guard p count → first_head input ≡ Some head
-    → ArePackets p (input_frames p input head) count × IsNear (first_version mode guard (product (coded_frame p input) count)) p (input_frames p input head) count
-coded-near mode guard p input count limit head plan bytes passed sends found =
+pub coded-near : (form : Form) (p : Schedule) (input : List ℕ) (count limit head : ℕ) → IsPlan p → IsBytes input → ArePassed (code_refusal p input limit) (is_there p input) count → CanCarry form p count → first_head input ≡ Some head
+    → ArePackets p (input_frames p input head) count × IsNear (view_of form (product (coded_frame (writing_of form) p input) count)) p (input_frames p input head) count
+coded-near form p input count limit head plan bytes passed carries found =
+    let how = writing_of form in
+    let frames = input_frames p input head in
     let packets = input-packets p input limit head count found passed bytes in (
       packets,
-      subst (λ stream. IsNear (first_version mode guard stream) p (input_frames p input head) count) (sym (product-same (coded_frame p input) (frame_cells p (input_frames p input head)) count (λ f h. coded-is p input head f found)))
-          (plan_cells-near mode guard p (input_frames p input head) count plan sends packets),
+      subst (λ stream. IsNear (view_of form stream) p frames count) (sym (product-same (coded_frame how p input) (sent_frame how p frames) count (λ f h. coded-is how p input head f found)))
+          (plan_cells-near form p frames count plan carries packets),
     )
 
 -- where there is no head nothing is written
@@ -120,9 +122,9 @@ none-there : (p : Schedule) (input : List ℕ) (f : ℕ) → first_head input �
 unfolding is_there
 none-there p input f none = ap (there_from p input f) none
 
-pub coded-none : (p : Schedule) (input : List ℕ) (count limit : ℕ) → ArePassed (code_refusal p input limit) (is_there p input) count → first_head input ≡ None → (count ≡ 0) × (product (coded_frame p input) count ≡ [])
-coded-none p input zero limit passed none = (refl, product-none (coded_frame p input))
-coded-none p input (suc n) limit passed none = (let is = (passed 0 (omega arith)).1 in let gone = none-there p input 0 none in absurd (true_false (sym is ∙ gone)))
+pub coded-none : (how : Writing) (p : Schedule) (input : List ℕ) (count limit : ℕ) → ArePassed (code_refusal p input limit) (is_there p input) count → first_head input ≡ None → (count ≡ 0) × (product (coded_frame how p input) count ≡ [])
+coded-none how p input zero limit passed none = (refl, product-none (coded_frame how p input))
+coded-none how p input (suc n) limit passed none = (let is = (passed 0 (omega arith)).1 in let gone = none-there p input 0 none in absurd (true_false (sym is ∙ gone)))
   where
     true_false : true ≡ false → ⊥
     true_false e = cc

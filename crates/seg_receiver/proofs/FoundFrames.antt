@@ -1,12 +1,12 @@
 -- What `code` finds in the broadcast packets of a plan's frames, and the cells of it.
-use Rattle.std.proofs.Common.{◌≡◌, ℕ, ◌+◌, ◌-◌, ◌*◌, ◌/◌, ◌<◌, List, length, take, drop, Some, arith, ap, sym, ◌∙◌, inl, inr}
+use Rattle.std.proofs.Common.{◌≡◌, ℕ, ◌+◌, ◌-◌, ◌*◌, ◌/◌, ◌<◌, List, ◌++◌, length, take, drop, Some, arith, ap, sym, ◌∙◌, inl, inr}
 use Rattle.ts_packet.proofs.PieceLaws.{length-null_packet}
 use Rattle.std.specs.Prelude.{sum_by, min, true}
 use Rattle.std.specs.List.{range_with_len}
 use Rattle.std.proofs.lemmas.List.{take-take, length-take, length-drop}
 use Rattle.isdbt_base.specs.declared.kinds.Layer.{Layer}
-use Rattle.isdbt_base.specs.declared.kinds.Mode.{Mode}
-use Rattle.isdbt_base.specs.declared.kinds.Guard.{Guard}
+use Rattle.isdbt_base.specs.declared.stream.Writing.{Writing}
+use Rattle.isdbt_base.specs.declared.stream.Form.{Form}
 use Rattle.isdbt_base.specs.LayerParameters.{LayerParameters}
 use Rattle.isdbt_base.specs.Parameters.{layer_of, number_of}
 use Rattle.isdbt_base.specs.Numbers.{packets_per_frame}
@@ -19,15 +19,15 @@ use Rattle.isdbt_base.proofs.RangeLaws.{flat_map-same}
 use Rattle.ts_packet.specs.Packets.{piece, piece_count, null_packet}
 use Rattle.frame_order.proofs.FrameBytes.{HasWholePackets, length-ordered_frame}
 use Rattle.coder_core.specs.InputFrames.{bears_head, first_head, slots_at, packets_before, frame_start, frame_at, packet_in, input_frames}
-use Rattle.coder_core.specs.SentCells.{frame_cells}
+use Rattle.coder_core.specs.SentCells.{sent_head, frame_cells, sent_frame}
 use Rattle.coder_core.specs.CodeRefusals.{frames_from, coded_frame}
 use Rattle.isdbt_base.proofs.Finding.{find-first_of}
 use Rattle.isdbt_base.proofs.PlanEpochs.{setting_accepted, at_countdown-le}
 use Rattle.coder_core.proofs.StablePlan.{frame_cells-same}
 use Rattle.remux_core.specs.Multiplex.{broadcast, frame_tag}
-use Rattle.seg_receiver.specs.CellStream.{first_version}
+use Rattle.seg_receiver.specs.CellStream.{view_of, writing_of}
 use Rattle.seg_receiver.specs.Received.{received}
-use Rattle.seg_receiver.specs.Delivered.{SendsIn, delivered, ArePackets}
+use Rattle.seg_receiver.specs.Delivered.{CanCarry, delivered, ArePackets}
 use Rattle.seg_receiver.specs.Composed.{broadcast_stream, HaveSize}
 use Rattle.seg_receiver.proofs.RangeCuts.{cut_at, length-sized}
 use Rattle.seg_receiver.proofs.BroadcastSlots.{head-ordered_frame, packet_in-ordered_frame}
@@ -111,28 +111,28 @@ input_frames-broadcast p frames count f j x l plan sizes h used k =
 
 -- ---- the cells
 
-pub coded_frame-broadcast : (p : Schedule) (frames : FramePackets) (count f : ℕ) → IsPlan p → HaveSize p frames count → f < count → coded_frame p (broadcast_stream p frames count) f ≡ frame_cells p frames f
-unfolding coded_frame
-coded_frame-broadcast p frames count f plan sizes h =
+pub coded_frame-broadcast : (how : Writing) (p : Schedule) (frames : FramePackets) (count f : ℕ) → IsPlan p → HaveSize p frames count → f < count → coded_frame how p (broadcast_stream p frames count) f ≡ sent_frame how p frames f
+unfolding coded_frame sent_frame
+coded_frame-broadcast how p frames count f plan sizes h =
     let stream = broadcast_stream p frames count in
-    ap (λ o. frame_cells p (frames_from p stream o) f) (first_head-broadcast p frames count plan sizes (omega (arith, h)))
-    ∙ frame_cells-same p (frames_from p stream (Some 0)) frames f plan (λ g j x l le used k. input_frames-broadcast p frames count g j x l plan sizes (omega (arith, le, h)) used k)
+    ap (λ o. sent_head how p f ++ frame_cells p (frames_from p stream o) f) (first_head-broadcast p frames count plan sizes (omega (arith, h)))
+    ∙ ap (λ cells. sent_head how p f ++ cells) (frame_cells-same p (frames_from p stream (Some 0)) frames f plan (λ g j x l le used k. input_frames-broadcast p frames count g j x l plan sizes (omega (arith, le, h)) used k))
 
 pub product-same : (f g : ℕ → List ℕ) (n : ℕ) → ((k : ℕ) → k < n → f k ≡ g k) → product f n ≡ product g n
 unfolding product
 product-same f g n h = flat_map-same f g 0 n (λ k a b. h k (omega (arith, b)))
 
-pub coded-broadcast : (p : Schedule) (frames : FramePackets) (count : ℕ) → IsPlan p → HaveSize p frames count → product (coded_frame p (broadcast_stream p frames count)) count ≡ product (frame_cells p frames) count
-coded-broadcast p frames count plan sizes =
-    product-same (coded_frame p (broadcast_stream p frames count)) (frame_cells p frames) count (λ f l. coded_frame-broadcast p frames count f plan sizes l)
+pub coded-broadcast : (how : Writing) (p : Schedule) (frames : FramePackets) (count : ℕ) → IsPlan p → HaveSize p frames count → product (coded_frame how p (broadcast_stream p frames count)) count ≡ product (sent_frame how p frames) count
+coded-broadcast how p frames count plan sizes =
+    product-same (coded_frame how p (broadcast_stream p frames count)) (sent_frame how p frames) count (λ f l. coded_frame-broadcast how p frames count f plan sizes l)
 
 -- ---- what is received
 
 pub sizes_of : (p : Schedule) (frames : FramePackets) (count : ℕ) → ArePackets p frames count → HaveSize p frames count
 sizes_of p frames count packets f j x l h used k = (packets f j x l h used k).0.size
 
-pub received-broadcast : (mode : Mode) (guard : Guard) (p : Schedule) (frames : FramePackets) (count : ℕ) → IsPlan p → SendsIn mode guard p count → ArePackets p frames count
-    → received (first_version mode guard (product (coded_frame p (broadcast_stream p frames count)) count)) count ≡ delivered p frames count
-received-broadcast mode guard p frames count plan sends packets =
-    ap (λ stream. received (first_version mode guard stream) count) (coded-broadcast p frames count plan (sizes_of p frames count packets))
-    ∙ received-near (first_version mode guard (product (frame_cells p frames) count)) p frames count plan packets (plan_cells-near mode guard p frames count plan sends packets)
+pub received-broadcast : (form : Form) (p : Schedule) (frames : FramePackets) (count : ℕ) → IsPlan p → CanCarry form p count → ArePackets p frames count
+    → received (view_of form (product (coded_frame (writing_of form) p (broadcast_stream p frames count)) count)) count ≡ delivered p frames count
+received-broadcast form p frames count plan carries packets =
+    ap (λ stream. received (view_of form stream) count) (coded-broadcast (writing_of form) p frames count plan (sizes_of p frames count packets))
+    ∙ received-near (view_of form (product (sent_frame (writing_of form) p frames) count)) p frames count plan packets (plan_cells-near form p frames count plan carries packets)

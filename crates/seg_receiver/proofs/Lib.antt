@@ -15,7 +15,7 @@ pub mod NearOutcome
 pub mod NextSettings
 pub mod PartialDelivered
 pub mod Pieces
-pub mod PlanModes
+pub mod PlanViews
 pub mod RangeCuts
 pub mod ReceiveProgress
 pub mod ReceivedParts

@@ -3,8 +3,7 @@ use Rattle.std.proofs.Common.{◌≡◌, ℕ, ◌+◌, ◌*◌, ◌<◌, List, �
 use Rattle.std.proofs.lemmas.Bool.{cases_lt, lt-ltb, le-ltb}
 use Rattle.std.proofs.lemmas.List.Elements.{All-take, All-drop, All-cons, All-replicate}
 use Rattle.isdbt_base.specs.declared.kinds.Layer.{Layer}
-use Rattle.isdbt_base.specs.declared.kinds.Mode.{Mode}
-use Rattle.isdbt_base.specs.declared.kinds.Guard.{Guard}
+use Rattle.isdbt_base.specs.declared.stream.Form.{Form}
 use Rattle.isdbt_base.specs.Plans.{Schedule, IsPlan}
 use Rattle.isdbt_base.specs.Outcome.{product}
 use Rattle.ts_packet.specs.Packets.{null_packet, piece, piece_count, piece_or_null, IsPacket}
@@ -14,9 +13,9 @@ use Rattle.coder_core.specs.CodeRefusals.{coded_frame}
 use Rattle.remux_core.specs.Multiplex.{filled, placed_before, multiplexed, written_frame}
 use Rattle.remux_core.specs.Parts.{IsGood}
 use Rattle.remux_core.proofs.Parts.{first_byte}
-use Rattle.seg_receiver.specs.CellStream.{first_version}
+use Rattle.seg_receiver.specs.CellStream.{view_of, writing_of}
 use Rattle.seg_receiver.specs.Received.{received}
-use Rattle.seg_receiver.specs.Delivered.{SendsIn, delivered, ArePackets}
+use Rattle.seg_receiver.specs.Delivered.{CanCarry, delivered, ArePackets}
 use Rattle.seg_receiver.proofs.FoundFrames.{received-broadcast}
 
 null-packet : IsPacket null_packet
@@ -65,7 +64,7 @@ multiplexed-packet p input good all f x j =
 pub multiplexed-packets : (p : Schedule) (input : Layer → List ℕ) (count : ℕ) → ((x : Layer) → IsGood (input x)) → ((x : Layer) → IsBytes (input x)) → ArePackets p (multiplexed p input) count
 multiplexed-packets p input count good all = λ f j x l h used k. multiplexed-packet p input good all f x j
 
-pub received-chain : (mode : Mode) (guard : Guard) (p : Schedule) (input : Layer → List ℕ) (count : ℕ) → IsPlan p → SendsIn mode guard p count → ((x : Layer) → IsGood (input x)) → ((x : Layer) → IsBytes (input x))
-    → received (first_version mode guard (product (coded_frame p (product (written_frame p input) count)) count)) count ≡ delivered p (multiplexed p input) count
-received-chain mode guard p input count plan sends good all =
-    received-broadcast mode guard p (multiplexed p input) count plan sends (multiplexed-packets p input count good all)
+pub received-chain : (form : Form) (p : Schedule) (input : Layer → List ℕ) (count : ℕ) → IsPlan p → CanCarry form p count → ((x : Layer) → IsGood (input x)) → ((x : Layer) → IsBytes (input x))
+    → received (view_of form (product (coded_frame (writing_of form) p (product (written_frame p input) count)) count)) count ≡ delivered p (multiplexed p input) count
+received-chain form p input count plan carries good all =
+    received-broadcast form p (multiplexed p input) count plan carries (multiplexed-packets p input count good all)

@@ -1,4 +1,4 @@
--- What a receiver sees in the cells of a plan: the words and the cells that were sent.
+-- What a receiver sees in the cells of a frame of a plan: the word and the cells that were sent.
 use Rattle.std.proofs.Common.{◌≡◌, ℕ, suc, ◌+◌, ◌-◌, ◌*◌, ◌/◌, ◌%◌, ◌<◌, Bool, true, false, List, length, refl, arith, ap, sym, ◌∙◌, subst, inl, inr}
 use Rattle.std.specs.Prelude.{slice_index, slice_index_or, ◌==◌}
 use Rattle.std.specs.Int.{w8, cast_signed, cast_unsigned, from_bool}
@@ -6,7 +6,6 @@ use Rattle.std.proofs.lemmas.Nat.{mul-add-lt, div-mul-add, mod-mul-add}
 use Rattle.std.proofs.lemmas.List.FromFn.{fill_by_all}
 use Rattle.isdbt_base.proofs.OptionLaws.{option_cases}
 use Rattle.isdbt_base.specs.declared.kinds.Mode.{Mode}
-use Rattle.isdbt_base.specs.declared.kinds.Guard.{Guard}
 use Rattle.isdbt_base.specs.LayerParameters.{LayerParameters}
 use Rattle.isdbt_base.specs.Parameters.{Parameters, layer_of}
 use Rattle.isdbt_base.specs.Numbers.{carriers, first_segment}
@@ -17,15 +16,9 @@ use Rattle.cell_map.proofs.LevelLaws.{IsBack, cell_of-back, zero-back}
 use Rattle.layer_chain.specs.CodedBits.{layer_coded_bit}
 use Rattle.layer_chain.specs.LayerCells.{cell_bits_at}
 use Rattle.tmcc_word.proofs.ReadBack.{length-word_of}
-use Rattle.coder_core.specs.SentCells.{epoch_packet, layer_cell_at, segment_layer, cell_in, epoch_cell, cell_bytes, symbol_bytes, epoch_frame_cells, plan_info, plan_word, frame_size}
-use Rattle.seg_receiver.specs.CellStream.{symbol_size, tmcc_bit, stream_word, stream_cell, first_version, AreInRow}
+use Rattle.coder_core.specs.SentCells.{epoch_packet, layer_cell_at, segment_layer, cell_in, epoch_cell, cell_bytes, symbol_bytes, epoch_frame_cells, plan_info, plan_word, frame_cells, frame_size}
+use Rattle.seg_receiver.specs.CellStream.{symbol_size, tmcc_bit, stream_word, stream_cell}
 use Rattle.seg_receiver.proofs.Pieces.{length-pieces, get_or-pieces}
-use Rattle.seg_receiver.proofs.PlanModes.{plan_frame, plan_cells}
-
--- ---- frames in a row
-
-pub in_row : (mode : Mode) (guard : Guard) (stream : List ℕ) (count : ℕ) → AreInRow (first_version mode guard stream) count
-in_row mode guard stream count = λ f less. omega arith
 
 -- ---- sizes
 
@@ -34,33 +27,27 @@ unfolding symbol_bytes
 length-symbol_bytes mode tmcc cell =
     let e = length-pieces (λ n. cell_bytes (cell (n / carriers mode) (n % carriers mode))) 2 0 (13 * carriers mode) (λ k. refl) in omega (arith, e)
 
-length-plan_frame : (mode : Mode) (p : Schedule) (frames : FramePackets) (f : ℕ) → length (plan_frame mode p frames f) ≡ frame_size mode
-unfolding epoch_frame_cells
-length-plan_frame mode p frames f =
-    length-pieces (λ k. symbol_bytes mode (slice_index_or (plan_word p f) k false) (epoch_cell mode (at_frame p f).setting frames (at_frame p f).start (204 * (f - (at_frame p f).start) + k)))
-    (symbol_size mode) 0 204 (λ k. length-symbol_bytes mode (slice_index_or (plan_word p f) k false) (epoch_cell mode (at_frame p f).setting frames (at_frame p f).start (204 * (f - (at_frame p f).start) + k)))
-
--- ---- bytes of a stream
-
-pub length-plan_cells : (mode : Mode) (p : Schedule) (frames : FramePackets) (count : ℕ) → length (plan_cells mode p frames count) ≡ count * frame_size mode
-length-plan_cells mode p frames count = length-pieces (plan_frame mode p frames) (frame_size mode) 0 count (length-plan_frame mode p frames)
-
 -- symbol k of a frame
-abbrev frame_symbol : Mode → Schedule → FramePackets → ℕ → ℕ → List ℕ
-frame_symbol mode p frames f k = symbol_bytes mode (slice_index_or (plan_word p f) k false) (epoch_cell mode (at_frame p f).setting frames (at_frame p f).start (204 * (f - (at_frame p f).start) + k))
+abbrev frame_symbol : Schedule → FramePackets → ℕ → ℕ → List ℕ
+frame_symbol p frames f k =
+    symbol_bytes (at_frame p f).mode (slice_index_or (plan_word p f) k false) (epoch_cell (at_frame p f).mode (at_frame p f).setting frames (at_frame p f).start (204 * (f - (at_frame p f).start) + k))
 
-symbol-in_frame : (mode : Mode) (p : Schedule) (frames : FramePackets) (f k r : ℕ) → k < 204 → r < symbol_size mode → slice_index (plan_frame mode p frames f) (k * symbol_size mode + r) ≡ slice_index (frame_symbol mode p frames f k) r
-unfolding epoch_frame_cells
-symbol-in_frame mode p frames f k r h l =
-    get_or-pieces (frame_symbol mode p frames f) (symbol_size mode) 0 204 k r 0 (λ i. length-symbol_bytes mode (slice_index_or (plan_word p f) i false) (epoch_cell mode (at_frame p f).setting frames (at_frame p f).start (204 * (f - (at_frame p f).start) + i))) h l
-    ∙ ap (λ i. slice_index (frame_symbol mode p frames f i) r) (let e : 0 + k ≡ k = omega arith in e)
+length-frame_symbol : (p : Schedule) (frames : FramePackets) (f k : ℕ) → length (frame_symbol p frames f k) ≡ symbol_size (at_frame p f).mode
+length-frame_symbol p frames f k =
+    length-symbol_bytes (at_frame p f).mode (slice_index_or (plan_word p f) k false) (epoch_cell (at_frame p f).mode (at_frame p f).setting frames (at_frame p f).start (204 * (f - (at_frame p f).start) + k))
 
-byte-in_stream : (mode : Mode) (p : Schedule) (frames : FramePackets) (count f k r : ℕ) → f < count → k < 204 → r < symbol_size mode →
-    slice_index (plan_cells mode p frames count) (f * frame_size mode + (k * symbol_size mode + r)) ≡ slice_index (frame_symbol mode p frames f k) r
-byte-in_stream mode p frames count f k r h l m =
-    get_or-pieces (plan_frame mode p frames) (frame_size mode) 0 count f (k * symbol_size mode + r) 0 (length-plan_frame mode p frames) h (let e = mul-add-lt k (symbol_size mode) r 204 l m in omega (arith, e))
-    ∙ ap (λ g. slice_index (plan_frame mode p frames g) (k * symbol_size mode + r)) (let e : 0 + f ≡ f = omega arith in e)
-    ∙ symbol-in_frame mode p frames f k r l m
+pub length-frame_cells : (p : Schedule) (frames : FramePackets) (f : ℕ) → length (frame_cells p frames f) ≡ frame_size (at_frame p f).mode
+unfolding frame_cells epoch_frame_cells
+length-frame_cells p frames f = length-pieces (frame_symbol p frames f) (symbol_size (at_frame p f).mode) 0 204 (length-frame_symbol p frames f)
+
+-- ---- bytes of a frame
+
+byte-in_frame : (p : Schedule) (frames : FramePackets) (f k r : ℕ) → k < 204 → r < symbol_size (at_frame p f).mode
+    → slice_index (frame_cells p frames f) (k * symbol_size (at_frame p f).mode + r) ≡ slice_index (frame_symbol p frames f k) r
+unfolding frame_cells epoch_frame_cells
+byte-in_frame p frames f k r h l =
+    get_or-pieces (frame_symbol p frames f) (symbol_size (at_frame p f).mode) 0 204 k r 0 (length-frame_symbol p frames f) h l
+    ∙ ap (λ i. slice_index (frame_symbol p frames f i) r) (let e : 0 + k ≡ k = omega arith in e)
 
 -- ---- words
 
@@ -72,12 +59,14 @@ first_byte : (mode : Mode) (tmcc : Bool) (cell : ℕ → ℕ → Cell) → slice
 unfolding symbol_bytes
 first_byte mode tmcc cell = refl
 
-pub stream_word-plan : (mode : Mode) (p : Schedule) (frames : FramePackets) (count f : ℕ) → f < count → stream_word mode (plan_cells mode p frames count) f ≡ plan_word p f
+pub frame-word : (p : Schedule) (frames : FramePackets) (f : ℕ) → stream_word (at_frame p f).mode (frame_cells p frames f) 0 ≡ plan_word p f
 unfolding stream_word
-stream_word-plan mode p frames count f h =
-    sym (fill_by_all (tmcc_bit mode (plan_cells mode p frames count) f) (plan_word p f) 204 false (length-word_of (plan_info p f) (f % 2 == 1)) (λ k l.
-    sym (ap (λ at. slice_index (plan_cells mode p frames count) at % 2 == 1) (let e : f * frame_size mode + k * symbol_size mode ≡ f * frame_size mode + (k * symbol_size mode + 0) = omega arith in e)
-    ∙ ap (λ b. b % 2 == 1) (byte-in_stream mode p frames count f k 0 h l (omega arith) ∙ first_byte mode (slice_index_or (plan_word p f) k false) _)
+frame-word p frames f =
+    let mode = (at_frame p f).mode in
+    let bytes = frame_cells p frames f in
+    sym (fill_by_all (tmcc_bit mode bytes 0) (plan_word p f) 204 false (length-word_of (plan_info p f) (f % 2 == 1)) (λ k l.
+    sym (ap (λ at. slice_index bytes at % 2 == 1) (let e : 0 * frame_size mode + k * symbol_size mode ≡ k * symbol_size mode + 0 = omega arith in e)
+    ∙ ap (λ b. b % 2 == 1) (byte-in_frame p frames f k 0 l (omega arith) ∙ first_byte mode (slice_index_or (plan_word p f) k false) _)
     ∙ bit_of_byte (slice_index_or (plan_word p f) k false))))
 
 -- ---- cells
@@ -113,18 +102,20 @@ cell-of_bytes c a b back is_i is_q =
     ∙ ap (λ x. record { i = x; q = cast_signed w8 (cast_unsigned w8 c.q) }) back.i
     ∙ ap (λ x. record { i = c.i; q = x }) back.q
 
-pub stream_cell-plan : (mode : Mode) (p : Schedule) (frames : FramePackets) (count f k segment carrier : ℕ) → f < count → k < 204 → segment < 13 → carrier < carriers mode →
-    stream_cell mode (plan_cells mode p frames count) f k segment carrier ≡ epoch_cell mode (at_frame p f).setting frames (at_frame p f).start (204 * (f - (at_frame p f).start) + k) segment carrier
+pub frame-cell : (p : Schedule) (frames : FramePackets) (f k segment carrier : ℕ) → k < 204 → segment < 13 → carrier < carriers (at_frame p f).mode →
+    stream_cell (at_frame p f).mode (frame_cells p frames f) 0 k segment carrier
+    ≡ epoch_cell (at_frame p f).mode (at_frame p f).setting frames (at_frame p f).start (204 * (f - (at_frame p f).start) + k) segment carrier
 unfolding stream_cell
-stream_cell-plan mode p frames count f k segment carrier h l m n =
-    let stream = plan_cells mode p frames count in
+frame-cell p frames f k segment carrier l m n =
+    let mode = (at_frame p f).mode in
+    let bytes = frame_cells p frames f in
     let cell = epoch_cell mode (at_frame p f).setting frames (at_frame p f).start (204 * (f - (at_frame p f).start) + k) in
     let place = segment * carriers mode + carrier in
-    let at = f * frame_size mode + k * symbol_size mode + 1 + 2 * place in
+    let at = 0 * frame_size mode + k * symbol_size mode + 1 + 2 * place in
     let within : place < 13 * carriers mode = (let e = mul-add-lt segment (carriers mode) carrier 13 m n in omega (arith, e)) in
     let back = epoch_cell-back mode (at_frame p f).setting frames (at_frame p f).start (204 * (f - (at_frame p f).start) + k) segment carrier in
-    let byte : (r : ℕ) → r < 2 → slice_index stream (at + r) ≡ slice_index (cell_bytes (cell segment carrier)) r = λ r b.
-    ap (slice_index stream) (let e : at + r ≡ f * frame_size mode + (k * symbol_size mode + suc (place * 2 + r)) = omega arith in e)
-    ∙ byte-in_stream mode p frames count f k (suc (place * 2 + r)) h l (omega arith)
+    let byte : (r : ℕ) → r < 2 → slice_index bytes (at + r) ≡ slice_index (cell_bytes (cell segment carrier)) r = λ r b.
+    ap (slice_index bytes) (let e : at + r ≡ k * symbol_size mode + suc (place * 2 + r) = omega arith in e)
+    ∙ byte-in_frame p frames f k (suc (place * 2 + r)) l (omega arith)
     ∙ cell-in_symbol mode (slice_index_or (plan_word p f) k false) cell segment carrier r m n b in
-    cell-of_bytes (cell segment carrier) (slice_index stream at) (slice_index stream (at + 1)) back (ap (slice_index stream) (let e : at ≡ at + 0 = omega arith in e) ∙ byte 0 (omega arith)) (byte 1 (omega arith))
+    cell-of_bytes (cell segment carrier) (slice_index bytes at) (slice_index bytes (at + 1)) back (ap (slice_index bytes) (let e : at ≡ at + 0 = omega arith in e) ∙ byte 0 (omega arith)) (byte 1 (omega arith))

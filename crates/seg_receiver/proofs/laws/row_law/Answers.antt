@@ -1,4 +1,4 @@
-use Rattle.seg_receiver.proofs.StreamLaws.{in_row}
+use Rattle.seg_receiver.proofs.PlanViews.{in_row}
 use Rattle.seg_receiver.proofs.laws.row_law.Goals as goal
 
 pub returns : goal.returns
