@@ -9,7 +9,7 @@ use crate::plans::{PlanRow, SINGLE, plan_of};
 use crate::streams::marked_packets;
 use coder_core::{CodeFault, code};
 use edge_io::{MemoryShelf, MemorySink, Seat, Shelf};
-use isdbt_base::{Guard, Mode, Plan};
+use isdbt_base::{Guard, Mode, Plan, Writing};
 use remux_core::{RemuxFault, remux};
 use seg_receiver::{ReceiveFault, receive};
 use std::alloc::Global;
@@ -103,37 +103,61 @@ pub fn remux_within(
     remux_plan(alloc, &plan_of(row)?, &inputs, limit, out)
 }
 
-/// A shelf of which the lone input is this stream.
-fn lone_shelf(alloc: Global, stream: &[u8]) -> Result<MemoryShelf, Fail>
+/// A lone input: its bytes, the most of them that a read gives, and the byte from which on a read fails, once.
+#[derive(Clone, Copy)]
+pub struct LoneInput<'a> {
+    pub stream: &'a [u8],
+    pub pieces: usize,
+    pub fails_from: u64,
+}
+
+/// The input of which no read fails, and each gives all that it is asked for.
+pub fn whole(stream: &[u8]) -> LoneInput<'_> {
+    LoneInput {
+        stream,
+        pieces: usize::MAX,
+        fails_from: u64::MAX,
+    }
+}
+
+/// A shelf with this lone input.
+fn lone_shelf(alloc: Global, input: &LoneInput) -> Result<MemoryShelf, Fail>
     ensures { IfOk result (λ shelf. is_seat_open shelf seats.In ≡ true) }
 {
     let mut shelf = MemoryShelf::new(alloc);
-    shelf.put("in", stream)?;
+    shelf.put("in", input.stream)?;
+    shelf.pieces(input.pieces.max(1));
+    shelf.fail_from(Seat::In, input.fails_from);
     shelf.open(Seat::In, "in")?;
     Ok(shelf)
 }
 
-/// Codes a stream of broadcast packets by a plan.
+/// Codes a stream of broadcast packets by a plan, in a version of the stream of cells that can carry it.
 pub fn code_plan(
     alloc: Global,
     plan: &Plan,
-    stream: &[u8],
+    how: Writing,
+    input: &LoneInput,
     mut out: MemorySink,
 ) -> Result<CodeEnd, Fail> {
-    let mut shelf = lone_shelf(alloc, stream)?;
-    let answer = code(alloc, plan, LIMIT, &mut shelf, &mut out);
-    let left = left_at(alloc, &mut shelf, Seat::In, stream.len())?;
+    if !how.v2 && plan.changes_mode() {
+        return Err(Fail::from("version 1 has one mode and guard interval"));
+    }
+    let mut shelf = lone_shelf(alloc, input)?;
+    let answer = code(alloc, plan, how, LIMIT, &mut shelf, &mut out);
+    let left = left_at(alloc, &mut shelf, Seat::In, input.stream.len())?;
     Ok(CodeEnd { answer, out, left })
 }
 
-/// Codes a stream of broadcast packets.
+/// Codes a stream of broadcast packets, in version 1.
 pub fn code_into(
     alloc: Global,
     row: &PlanRow,
     stream: &[u8],
     out: MemorySink,
 ) -> Result<CodeEnd, Fail> {
-    code_plan(alloc, &plan_of(row)?, stream, out)
+    let how = Writing { v2: false };
+    code_plan(alloc, &plan_of(row)?, how, &whole(stream), out)
 }
 
 /// Receives a stream of cells.
@@ -144,7 +168,7 @@ pub fn receive_into(
     cells: &[u8],
     mut out: MemorySink,
 ) -> Result<ReceiveEnd, Fail> {
-    let mut shelf = lone_shelf(alloc, cells)?;
+    let mut shelf = lone_shelf(alloc, &whole(cells))?;
     let answer = receive(alloc, mode, guard, LIMIT, &mut shelf, &mut out);
     let left = left_at(alloc, &mut shelf, Seat::In, cells.len())?;
     Ok(ReceiveEnd { answer, out, left })

@@ -1,12 +1,12 @@
 //! Plans with switches: what `remux` writes and leaves of its inputs, and what comes through all three commands.
 
-use crate::commands::{LayerInputs, ROOM, RemuxEnd, code_plan, receive_into, remux_plan};
+use crate::commands::{LayerInputs, ROOM, RemuxEnd, code_plan, receive_into, remux_plan, whole};
 use crate::epoch_rows::{ENDS, EPOCHS, FramesRow, RECEIVED, WRONG};
 use crate::plans::{SINGLE, SwitchRow, plan_with};
 use crate::streams::{FRAME, check, check_count, is_null_packet, marked_packets, slot_at};
 use crate::words::word_at;
 use edge_io::MemorySink;
-use isdbt_base::{Guard, Mode, Plan};
+use isdbt_base::{Guard, Mode, Plan, Writing};
 use std::alloc::Global;
 use std::process::Abort;
 use std::test::Fail;
@@ -182,7 +182,8 @@ fn announced_switch(rt: HostRuntime) -> Result<(), Fail> {
     let coded = code_plan(
         alloc,
         &plan,
-        sent.out.bytes(),
+        Writing { v2: false },
+        &whole(sent.out.bytes()),
         MemorySink::new(alloc, ROOM)?,
     )?;
     check(&rt, coded.answer == Ok(25));

@@ -25,6 +25,8 @@ mod streams;
 #[cfg(test)]
 mod switch_tests;
 #[cfg(test)]
+mod version_tests;
+#[cfg(test)]
 mod word_tests;
 #[cfg(test)]
 mod words;

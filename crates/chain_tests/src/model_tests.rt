@@ -1,12 +1,12 @@
 //! The cells that `code` writes against those of the second coder, for twelve settings of all kinds, alone and one behind the
 //! other, and known values of its parts.
 
-use crate::commands::{ROOM, code_plan, coded, remuxed};
+use crate::commands::{ROOM, code_plan, coded, remuxed, whole};
 use crate::model_rows::{CellRow, DEEP_LAYERS, MODE_2, MODE_3, SHALLOW};
 use crate::plans::{LayerRow, SwitchRow, plan_with};
 use crate::streams::check;
 use edge_io::MemorySink;
-use isdbt_base::{DepthCode, Modulation, Rate};
+use isdbt_base::{DepthCode, Modulation, Rate, Writing};
 use model_coder::{
     Difference, LayerScale, OuterCode, Scale, add_layer, coded_bits, dispersal, first_difference,
     layer_packets,
@@ -169,8 +169,37 @@ fn compare(rt: &impl Abort, alloc: Global, rows: &[CellRow]) -> Result<(), Fail>
     Ok(())
 }
 
-/// Compares the cells of two rows' frames, coded one row behind the other by a plan that switches between them: each row's
-/// frames have the cells that they have alone.
+/// The head of a row's frames: mode 1 has 96 data carriers a segment, and a frame of it without guard intervals 1024 slots.
+fn head_of(row: &CellRow) -> [u8; 8] {
+    let mode = match row.carriers {
+        96 => 1,
+        192 => 2,
+        _ => 3,
+    };
+    let useful = row.carriers.wrapping_mul(32) / 3;
+    let guard = useful.checked_div(row.slots.wrapping_sub(useful));
+    let part = guard.unwrap_or(0) as u8;
+    [0x49, 0x53, 0x43, 0x32, mode, part, 0, 0]
+}
+
+/// The symbols of a row's frames in version 2, whose heads are checked.
+fn without_heads(
+    rt: &impl Abort,
+    alloc: Global,
+    row: &CellRow,
+    written: &[u8],
+) -> Result<Vec<u8>, Fail> {
+    let size = size_of(row).checked_div(row.frames).unwrap_or(0);
+    let mut symbols = Vec::new(alloc);
+    for frame in written.chunks(size.wrapping_add(8)) {
+        check(rt, frame.starts_with(&head_of(row)));
+        symbols.extend_from_slice(frame.get(8..).unwrap_or(&[]))?;
+    }
+    Ok(symbols)
+}
+
+/// Compares the cells of two rows' frames, coded in version 2 one row behind the other by a plan that switches between them:
+/// each row's frames have the cells that they have alone, and its own heads.
 fn compare_over_a_switch(
     rt: &impl Abort,
     alloc: Global,
@@ -186,14 +215,18 @@ fn compare_over_a_switch(
     let plan = plan_with(&first.plan, &[switch])?;
     let mut stream = front.as_slice().to_vec(alloc)?;
     stream.extend_from_slice(&back)?;
-    let ended = code_plan(alloc, &plan, &stream, MemorySink::new(alloc, ROOM)?)?;
+    let out = MemorySink::new(alloc, ROOM)?;
+    let ended = code_plan(alloc, &plan, Writing { v2: true }, &whole(&stream), out)?;
     let frames = ended.answer? as usize;
     check(rt, frames == first.frames.wrapping_add(second.frames));
-    let Some((before, behind)) = ended.out.bytes().split_at_checked(size_of(first)) else {
+    let size = size_of(first).wrapping_add(first.frames.wrapping_mul(8));
+    let Some((before, behind)) = ended.out.bytes().split_at_checked(size) else {
         return Err(Fail::from("too few cells"));
     };
-    check_cells(rt, alloc, first, &front, before)?;
-    check_cells(rt, alloc, second, &back, behind)
+    let before = without_heads(rt, alloc, first, before)?;
+    let behind = without_heads(rt, alloc, second, behind)?;
+    check_cells(rt, alloc, first, &front, &before)?;
+    check_cells(rt, alloc, second, &back, &behind)
 }
 
 /// In one mode, from mode 2 to 3, and from mode 2 to 1.
