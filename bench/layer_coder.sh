@@ -12,7 +12,7 @@ folder=$(mktemp -d)
 trap 'rm -rf "$folder"' EXIT
 measure=$folder/crates/measure
 mkdir -p "$measure/src" "$measure/proofs/packets_from" "$measure/proofs/coded_layer" "$measure/proofs/layer_coder"
-for crate in isdbt_base ts_packet gf_rs energy_prbs delay_line byte_inter conv_punct bit_inter time_inter cell_map layer_chain; do
+for crate in isdbt_base ts_packet gf_rs energy_prbs delay_line byte_inter conv_punct viterbi_hard bit_inter time_inter cell_map layer_chain; do
     cp -R "$top/crates/$crate" "$folder/crates"
     grep "^$crate:" "$top/crates.txt" >>"$folder/crates.txt"
 done

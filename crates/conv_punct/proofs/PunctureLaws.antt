@@ -1,5 +1,10 @@
 -- The outputs that are sent are those of the puncturing pattern.
-use Rattle.std.proofs.Common.{◌≡◌, ℕ, ◌+◌, ◌-◌, ◌*◌, ◌<◌, Bool, refl, ap, arith, sym, ◌∙◌, List, map, length, get_or}
+use Rattle.std.proofs.Common.{◌≡◌, ℕ, ◌+◌, ◌-◌, ◌*◌, ◌/◌, ◌%◌, ◌^◌, ◌<◌, ◌≤◌, Bool, refl, ap, arith, sym, ◌∙◌, List, map, length, get_or}
+use Rattle.std.specs.Prelude.{◌==◌, bit_and}
+use Rattle.std.specs.Int.{bit_at}
+use Rattle.std.proofs.lemmas.Nat.Bits.{shr_and_one, bit_at_cat_low}
+use Rattle.std.proofs.Math.Nat.{div-div-eq-div-mul}
+use Rattle.std.proofs.lemmas.Nat.{pow-add}
 use Rattle.std.proofs.lemmas.List.{length-map}
 use Rattle.std.proofs.Math.ListN.{get_or-map}
 use Rattle.isdbt_base.specs.declared.kinds.Rate.{Rate}
@@ -9,7 +14,7 @@ use Rattle.conv_punct.specs.declared.mother_code.MotherBits.{MotherBits}
 use Rattle.conv_punct.specs.declared.pattern.Sent.{Sent}
 use Rattle.conv_punct.specs.declared.pattern.Sent.TheVariants.{X, Y}
 use Rattle.conv_punct.specs.CodedBits.{pattern, output_at, output_bit, step_of, coded_bit, x_bit, y_bit, x_of}
-use Rattle.conv_punct.specs.MotherCode.{AreMotherBits}
+use Rattle.conv_punct.specs.MotherCode.{word_bit, AreMotherBits}
 use Rattle.conv_punct.specs.Sending.{output_of, sent_bit}
 use Rattle.conv_punct.proofs.PatternLaws.{div-part, mod-part, output_step-lt}
 
@@ -53,3 +58,18 @@ sent-coded rate sent o u i before last r e h outputs place =
     sent_bit-output o u i (rate_steps rate * before) (rate_steps rate) last (get_or sent r (X 0)) outputs at (sent-step rate sent r e (omega arith))
     ∙ ap (output_bit u (rate_steps rate * before)) (sent-output rate sent r e)
     ∙ sym (coded_bit-pattern rate u before r h)
+
+bit-moved : (n k i j : ℕ) → j ≡ k + i → word_bit (n / 2 ^ k) i ≡ word_bit n j
+bit-moved n k i j at = ap (λ m. m % 2 == 1) (div-div-eq-div-mul n (2 ^ k) (2 ^ i) ∙ ap (λ p. n / p) (sym (pow-add 2 k i) ∙ ap (λ e. 2 ^ e) (sym at)))
+
+-- the outputs without those of the newest steps
+pub sent_bit-moved : (o : MotherBits) (k first : ℕ) (sent : Sent) → step_of (output_of sent) ≤ first
+    → sent_bit record { x = o.x / 2 ^ k; y = o.y / 2 ^ k } first sent ≡ sent_bit o (k + first) sent
+sent_bit-moved o k first (X a) h = bit-moved o.x k (first - a) (k + first - a) (omega (arith, h))
+sent_bit-moved o k first (Y a) h = bit-moved o.y k (first - a) (k + first - a) (omega (arith, h))
+
+-- one of the eight lowest bits
+pub low_bit : (n i : ℕ) → i < 8 → bit_and (n % 2 ^ 8 / 2 ^ i) 1 ≡ bit_at n i
+low_bit n i h =
+    let whole : n / 2 ^ 8 * 2 ^ 8 + n % 2 ^ 8 ≡ n = omega arith in
+    shr_and_one (n % 2 ^ 8) i ∙ sym (bit_at_cat_low (n / 2 ^ 8) 8 (n % 2 ^ 8) i h) ∙ ap (λ m. bit_at m i) whole

@@ -4,22 +4,36 @@ ghost use Rattle.std.specs.Prelude.{◌≡◌, ℕ, ◌+◌, ◌*◌, ◌<◌, �
 ghost use Rattle.isdbt_base.specs.Numbers.{rate_steps, rate_bits};
 ghost use Rattle.conv_punct.specs.CodedBits.{step_of};
 ghost use Rattle.conv_punct.specs.Sending.{output_of, sent_bit};
+ghost use Rattle.conv_punct.specs.declared.pattern.Sent.{Sent};
 ghost use Rattle.conv_punct.specs.MotherCode.{AreMotherBits, AreCoded, ChangesOnly};
 
 use crate::mother_code::MotherBits;
 use crate::pattern::{Sent, pattern_of};
 use isdbt_base::{Rate, rate_pair};
 
-/// The output of a pattern whose first step has bit `first`.
+/// The output of a pattern whose first step has bit `first`. The work is on bytes, so that it is done for a whole pattern
+/// at once.
 #[inline(always)]
 fn sent_bit(sent: Sent, outputs: &MotherBits, first: u32) -> bool
     requires within { step_of (output_of sent) ≤ first }
-    requires place { first < 64 }
+    requires place { first < 8 }
     ensures { result ≡ sent_bit outputs.now first sent }
 {
     match sent {
-        Sent::X(step) => (outputs.x >> (first - step)) & 1 == 1,
-        Sent::Y(step) => (outputs.y >> (first - step)) & 1 == 1,
+        Sent::X(step) => ((outputs.x % 256) as u8 >> (first - step)) & 1 == 1,
+        Sent::Y(step) => ((outputs.y % 256) as u8 >> (first - step)) & 1 == 1,
+    }
+}
+
+/// The outputs without those of so many newest steps.
+#[inline(always)]
+fn moved_down(outputs: &MotherBits, count: u32) -> MotherBits
+    requires { count < 64 }
+    ensures { (first : ℕ) (sent : Sent) → step_of (output_of sent) ≤ first → sent_bit result first sent ≡ sent_bit outputs.now (count + first) sent }
+{
+    MotherBits {
+        x: outputs.x >> count,
+        y: outputs.y >> count,
     }
 }
 
@@ -33,10 +47,11 @@ fn put_pattern(out: &mut [bool], at: usize, rate: Rate, outputs: &MotherBits, la
     ensures others { ChangesOnly out.old out.new at (rate_bits rate) }
 {
     let (steps, _) = rate_pair(rate);
-    let first = last + steps - 1;
+    // Moved down, so that the place of each bit is known when the program is built.
+    let moved = moved_down(outputs, last);
     let pattern = pattern_of(rate);
     for (index, sent) in pattern.iter().enumerate() {
-        out[at + index] = sent_bit(*sent, outputs, first);
+        out[at + index] = sent_bit(*sent, &moved, steps - 1);
     }
     at + pattern.len()
 }

@@ -12,7 +12,7 @@ use Rattle.gf_rs.proofs.TableLaws.{power_is}
 use Rattle.gf_rs.proofs.Steps.{value-entries}
 use Rattle.std.proofs.Math.Seq.{take-length}
 
-abbrev powers_of : List ℕ → List ℕ
+abbrev pub powers_of : List ℕ → List ℕ
 powers_of [] = []
 powers_of (e ∷ es) = get_or POWERS e 0 ∷ powers_of es
 
@@ -44,7 +44,7 @@ exponent-lt [] k t h = absurd (omega arith)
 exponent-lt (e ∷ es) zero t h = ltb-true _ _ (both (nat_lt e 255) (are_exponents es) t).0
 exponent-lt (e ∷ es) (suc k) t h = exponent-lt es k (both (nat_lt e 255) (are_exponents es) t).1 (omega arith)
 
-length-powers_of : (row : List ℕ) → length (powers_of row) ≡ length row
+pub length-powers_of : (row : List ℕ) → length (powers_of row) ≡ length row
 length-powers_of [] = refl
 length-powers_of (e ∷ es) = ap suc (length-powers_of es)
 
@@ -53,7 +53,7 @@ power-at [] k t h = absurd (omega arith)
 power-at (e ∷ es) zero t h = power_is e (let l : e < 255 = ltb-true _ _ (both (nat_lt e 255) (are_exponents es) t).0 in omega arith)
 power-at (e ∷ es) (suc k) t h = power-at es k (both (nat_lt e 255) (are_exponents es) t).1 (omega arith)
 
-value_to-cong : (c e : ℕ → ℕ) (d v : ℕ) → ((j : ℕ) → j ≤ d → c j ≡ e j) → value_to c d v ≡ value_to e d v
+pub value_to-cong : (c e : ℕ → ℕ) (d v : ℕ) → ((j : ℕ) → j ≤ d → c j ≡ e j) → value_to c d v ≡ value_to e d v
 unfolding value_to
 value_to-cong c e zero v h = h 0 (omega arith)
 value_to-cong c e (suc d) v h = ap (λ z. bit_xor (gf_mul z v) (c (suc d))) (value_to-cong c e d v (λ j k. h j (omega arith))) ∙ ap (bit_xor (gf_mul (value_to e d v) v)) (h (suc d) (omega arith))
@@ -86,3 +86,10 @@ generator_roots r i e a b h =
     ∙ sym (value-entries (powers_of row) (r - 1) (gf_pow 2 i) (omega arith))
     ∙ ap (λ l. value_at l (gf_pow 2 i)) all
     ∙ eqb-true _ _ (at_each r (λ i. value_at (powers_of row) (gf_pow 2 i) == gf_pow (gf_pow 2 i) r) i n.1 h)
+
+-- the coefficients of a generator polynomial
+pub coefficient_is : (r k : ℕ) → r % 2 ≡ 0 → 2 ≤ r → r ≤ 32 → k < r → get_or (powers_of (row_of r)) k 0 ≡ gf_pow 2 (get_or (row_of r) k 0)
+coefficient_is r k e a b h =
+    let row = row_of r in
+    let t = both (are_exponents row) (has_roots r (powers_of row)) (row_passes r e a b) in
+    power-at row k t.0 (let size = generator-length r e a b in omega (arith, size, h))

@@ -1,6 +1,7 @@
 pub mod FieldTests
 pub mod FieldLaws
 pub mod TableLaws
+pub mod ProductLaws
 pub mod Roots
 pub mod OneCodeword
 pub mod Systematic

@@ -1,5 +1,5 @@
 -- Polynomials by their coefficients, and the recurrences of a sequence of terms.
-use Rattle.std.specs.Prelude.{◌≡◌, ℕ, zero, suc, ◌+◌, ◌<◌, ◌≤◌, bit_xor}
+use Rattle.std.specs.Prelude.{◌≡◌, ℕ, zero, suc, ◌+◌, ◌*◌, ◌/◌, ◌%◌, ◌^◌, ◌<◌, ◌≤◌, bit_xor}
 use Rattle.gf_rs.specs.Field.{gf_mul}
 
 -- the sum of the coefficients c 0 to c d times the terms s (d + i) down to s i
@@ -11,6 +11,10 @@ along c s (suc d) i = bit_xor (along c s d (suc i)) (gf_mul (c (suc d)) (s i))
 unfoldable pub value_to : (ℕ → ℕ) → ℕ → ℕ → ℕ
 value_to c zero x = c 0
 value_to c (suc d) x = bit_xor (gf_mul (value_to c d x) x) (c (suc d))
+
+-- byte k of a number, the lowest being byte 0
+abbrev pub byte_of : ℕ → ℕ → ℕ
+byte_of n k = n / 2 ^ (8 * k) % 2 ^ 8
 
 -- coefficients moved up by one
 abbrev pub moved : (ℕ → ℕ) → ℕ → ℕ

@@ -14,6 +14,7 @@ mod generator;
 mod laws;
 mod locator;
 mod nearest;
+mod products;
 mod register;
 mod rs;
 mod syndromes;

@@ -1,12 +1,14 @@
 //! The outer code.
 
-ghost use Rattle.std.specs.Prelude.{◌≡◌, ℕ, ◌+◌, ◌<◌, ◌%◌, ◌≤◌, ◌↔◌, ◌++◌, List, length, All};
-ghost use Rattle.gf_rs.specs.Field.{gf_pow};
+ghost use Rattle.std.specs.Prelude.{◌≡◌, ℕ, ◌+◌, ◌-◌, ◌<◌, ◌%◌, ◌≤◌, ◌↔◌, ◌++◌, List, length, slice_index, All};
+ghost use Rattle.gf_rs.specs.Field.{gf_mul, gf_pow};
+ghost use Rattle.gf_rs.specs.Polynomials.{value_to};
 ghost use Rattle.gf_rs.specs.Codewords.{value_at, IsCodeword, IsNear, added, codeword_of};
 
 use crate::correction::{correct, count_differing};
 use crate::generator::generator;
 use crate::nearest::Nearest;
+use crate::products::put_parity_16;
 use crate::register::{clear, shift_in};
 use crate::syndromes::{are_zero, fill_syndromes};
 
@@ -37,6 +39,35 @@ impl<const ROOTS: usize> Rs<ROOTS> {
         requires size { length message.now + ROOTS ≤ 255 }
         ensures codeword { IsCodeword ROOTS (message.now ++ out.new) }
         ensures value { message.now ++ out.new ≡ codeword_of ROOTS message.now }
+    {
+        Self::put_parity(message, out);
+    }
+
+    /// Writes the remainder by the generator polynomial of the message with as many zeros behind it as there are roots: from
+    /// the table of products for 16 roots, and byte by byte for others.
+    #[inline(always)]
+    fn put_parity(message: &[u8], out: &mut [u8])
+        requires even { ROOTS % 2 ≡ 0 }
+        requires least { 2 ≤ ROOTS }
+        requires most { ROOTS ≤ 32 }
+        requires room { length out.old ≡ ROOTS }
+        ensures { (i : ℕ) → i < ROOTS → value_to (λ j. slice_index out.new j) (ROOTS - 1) (gf_pow 2 i) ≡ gf_mul (value_at message.now (gf_pow 2 i)) (gf_pow (gf_pow 2 i) ROOTS) }
+    {
+        if ROOTS == 16 {
+            put_parity_16(message, out);
+        } else {
+            Self::shift_all(message, out);
+        }
+    }
+
+    /// The same, byte by byte for any count of roots.
+    #[inline(always)]
+    fn shift_all(message: &[u8], out: &mut [u8])
+        requires even { ROOTS % 2 ≡ 0 }
+        requires least { 2 ≤ ROOTS }
+        requires most { ROOTS ≤ 32 }
+        requires room { length out.old ≡ ROOTS }
+        ensures { (i : ℕ) → i < ROOTS → value_to (λ j. slice_index out.new j) (ROOTS - 1) (gf_pow 2 i) ≡ gf_mul (value_at message.now (gf_pow 2 i)) (gf_pow (gf_pow 2 i) ROOTS) }
     {
         clear(out);
         let generator = generator(ROOTS);

@@ -1,6 +1,6 @@
 -- How many items the delay lines of a layer's coder hold: as many as the delays add up to.
 use Rattle.std.proofs.Common.{◌≡◌, ℕ, zero, suc, ◌+◌, ◌*◌, ◌/◌, ◌%◌, ◌<◌, List, length, refl, sym, ap, ◌∙◌, arith}
-use Rattle.std.proofs.Math.Nat.{mul-add}
+use Rattle.std.proofs.Math.Nat.{mul-add, suc-mul}
 use Rattle.isdbt_base.specs.declared.kinds.Mode.{Mode}
 use Rattle.isdbt_base.specs.declared.kinds.Mode.TheVariants.{M1, M2, M3}
 use Rattle.isdbt_base.specs.declared.kinds.Modulation.{Modulation}
@@ -47,6 +47,12 @@ unfolding delays
 bit-delays Qpsk = refl
 bit-delays Qam16 = refl
 bit-delays Qam64 = refl
+
+-- a part that all delays have
+pub delays-shared : (a : ℕ) (f : ℕ → ℕ) (n : ℕ) → delays (λ r. a + f r) n ≡ n * a + delays f n
+unfolding delays
+delays-shared a f zero = omega arith
+delays-shared a f (suc n) = (let before = delays-shared a f n in let one = suc-mul n a in omega (arith, before, one))
 
 -- ---- cells
 

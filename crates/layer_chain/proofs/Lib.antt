@@ -1,4 +1,5 @@
 pub mod AdjustedFrames
+pub mod BitPathLaws
 pub mod BytesHeld
 pub mod CellNumbers
 pub mod CleanWords

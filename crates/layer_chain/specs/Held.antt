@@ -2,7 +2,7 @@
 use Rattle.std.specs.Prelude.{ℕ, zero, suc, ◌+◌, List, [], length, slice_index_or}
 use Rattle.isdbt_base.specs.Numbers.{cell_bits}
 use Rattle.time_inter.specs.LayerStage as time
-use Rattle.layer_chain.specs.BitStage as bit
+use Rattle.layer_chain.specs.BitPaths as bit
 use Rattle.layer_chain.specs.LayerCoder.{layer_of, cells_of}
 use Rattle.layer_chain.specs.declared.layer_coder.LayerCoder.{LayerCoder}
 use Rattle.time_inter.specs.LayerPartner as partner
@@ -19,8 +19,9 @@ items_in held (suc n) = items_in held n + length (held n)
 abbrev pub bytes_in : LayerCoder → ℕ
 bytes_in s = length s.coded.interleaver.line + items_in (λ p. slice_index_or s.coded.interleaver.stage p []) 12
 
+-- the line of a bit has the adjustment's delay and its own, and of each number that it holds this bit alone is still to go out
 abbrev pub bits_in : LayerCoder → ℕ
-bits_in s = length s.bits.line + items_in (bit.held_of s.bits.stage) (cell_bits (layer_of s).modulation)
+bits_in s = items_in (λ r. slice_index_or (bit.lines_of s.bits) r []) (cell_bits (layer_of s).modulation)
 
 abbrev pub cells_in : LayerCoder → ℕ
 cells_in s = length s.cells.line + items_in (time.held_of s.cells.stage) (cells_of s)

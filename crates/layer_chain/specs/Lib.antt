@@ -1,5 +1,5 @@
 pub mod BitDeinterleaver
-pub mod BitStage
+pub mod BitPaths
 pub mod CodedBits
 pub mod CodedLayer
 pub mod DecidedBytes

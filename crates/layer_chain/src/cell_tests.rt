@@ -5,10 +5,11 @@ ghost use Rattle.isdbt_base.specs.Numbers.{layer_cells};
 
 use crate::adjusted::Adjusted;
 use crate::bit_deinterleaver::BitDeinterleaver;
-use crate::bit_stage::BitStage;
+use crate::bit_paths::BitPaths;
 use crate::cell_numbers::number_cells;
 use crate::tests::{null_packets, numbered_from};
 use crate::{Held, LayerCoder, bit_partner_law};
+use bit_inter::BitInter;
 use cell_map::Cell;
 use delay_line::{Stage, through};
 use isdbt_base::{DepthCode, LayerSetting, Mode, Modulation, Rate};
@@ -73,18 +74,15 @@ fn held_items(rt: HostRuntime) -> Result<(), Fail> {
 }
 
 /// Passes the coded bits of a frame on, of a layer of one segment with QPSK in mode 1, to the numbers of its cells.
-fn pass(
-    bits: &mut Adjusted<BitStage>,
-    cells: &mut Adjusted<LayerInter>,
-    coded: &[bool],
-    out: &mut [u8],
-) {
-    let mut placed = [false; 39_168];
+fn pass(bits: &mut BitPaths, cells: &mut Adjusted<LayerInter>, coded: &[bool], out: &mut [u8]) {
+    let mut coded_numbers = [0u8; 19_584];
     let mut numbers = [0u8; 19_584];
-    if coded.len() == 39_168 && bits.middle.len() == 39_168 && bits.stage.paths() == 2 {
-        bits.feed(coded, &mut placed);
+    if coded.len() == 39_168 {
+        number_cells(coded, 2, &mut coded_numbers);
     }
-    number_cells(&placed, 2, &mut numbers);
+    if bits.late.len() == 19_584 && bits.lines.len() == 2 {
+        bits.feed(&coded_numbers, &mut numbers);
+    }
     if out.len() == 19_584 && cells.middle.len() == 19_584 && cells.stage.paths() == 96 {
         cells.feed(&numbers, out);
     }
@@ -94,8 +92,7 @@ fn pass(
 /// one alone is one: mode 1, one segment, QPSK and a length of 4 symbols.
 fn place_of_bit(alloc: Global, coded: usize) -> Result<Option<(usize, usize, u8)>, Fail> {
     let layer = LayerSetting::new(1, Modulation::Qpsk, Rate::R12, DepthCode::D1).ok_or("refused")?;
-    let stage = BitStage::open(alloc, Modulation::Qpsk)?;
-    let mut bits = Adjusted::open(alloc, 2 * (2 * 96 - 120), stage, 39_168)?;
+    let mut bits = BitPaths::open(alloc, Modulation::Qpsk, 96, 19_584)?;
     let stage = LayerInter::open(alloc, &layer, Mode::M1)?;
     let mut cells = Adjusted::open(alloc, 28 * 96, stage, 19_584)?;
     let mut first = [false; 39_168];
@@ -215,7 +212,7 @@ fn bit_of(turn: usize, path: usize) -> bool {
 
 /// What a bit deinterleaver gives at last of so many turns of 64QAM that the interleaver of the same modulation was fed.
 fn last_of_pair(alloc: Global, turns: usize) -> Result<[bool; 6], Fail> {
-    let mut sender = BitStage::open(alloc, Modulation::Qam64)?;
+    let mut sender = BitInter::<6>::open(alloc)?;
     let mut receiver = BitDeinterleaver::open(alloc, Modulation::Qam64)?;
     bit_partner_law(Modulation::Qam64);
     let mut middle = [false; 6];

@@ -33,8 +33,8 @@ pub fn cell_prefix_law(mode: Mode, layer: LayerSetting)
         → cell_bits_at mode layer (layer_coded_bit mode layer packet) y w ≡ cell_bits_at mode layer (layer_coded_bit mode layer other) y w }
 {}
 
-/// The two sides of bit interleaving of a layer are partners, either first: so are a `BitStage` and a `BitDeinterleaver` that
-/// were opened for one modulation.
+/// The two sides of bit interleaving of a layer are partners, either first: so are a `BitInter` for the modulation's cells and
+/// a `BitDeinterleaver` that was opened for the modulation.
 pub fn bit_partner_law(modulation: Modulation)
     ensures sender_first { ArePartners (inter_layout (cell_bits modulation)) (deinter_layout (cell_bits modulation)) }
     ensures receiver_first { ArePartners (deinter_layout (cell_bits modulation)) (inter_layout (cell_bits modulation)) }

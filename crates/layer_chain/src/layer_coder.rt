@@ -1,12 +1,12 @@
 //! The cells of one layer.
 
-ghost use Rattle.std.specs.Prelude.{◌≡◌, ◌*◌, vec_len};
+ghost use Rattle.std.specs.Prelude.{◌≡◌, ◌*◌, length, vec_len};
 ghost use Rattle.isdbt_base.specs.Numbers.{layer_cells, cell_bits};
 ghost use Rattle.time_inter.specs.LayerStage.{layout_of};
-ghost use Rattle.layer_chain.specs.BitStage.{layout_of as bit_layout_of};
+ghost use Rattle.layer_chain.specs.BitPaths.{lines_of};
 
 use crate::adjusted::Adjusted;
-use crate::bit_stage::BitStage;
+use crate::bit_paths::BitPaths;
 use crate::cell_numbers::{map_cells, number_cells};
 use crate::coded_layer::CodedLayer;
 use cell_map::Cell;
@@ -34,21 +34,21 @@ pub struct Held {
 pub struct LayerCoder {
     coded: CodedLayer,
     modulation: Modulation,
-    bits: Adjusted<BitStage>,
+    bits: BitPaths,
     cells: Adjusted<LayerInter>,
     /// The coded bits of a frame.
     coded_bits: Vec<bool>,
-    /// The bits of a frame at their places in the layer's cells.
-    placed_bits: Vec<bool>,
-    /// The bits of the layer's cells, a number for each cell.
+    /// The coded bits of a cell as a number, for each cell.
+    coded_numbers: Vec<u8>,
+    /// The bits at their places in the layer's cells, a number for each cell.
     numbers: Vec<u8>,
     /// The same at the cells' places in the frame's symbols.
     placed_numbers: Vec<u8>,
-    ghost bit_paths: { (bit_layout_of bits.stage).paths ≡ cell_bits coded.layer.modulation },
+    ghost bit_paths: { length (lines_of bits) ≡ cell_bits coded.layer.modulation },
     ghost cell_paths: { (layout_of cells.stage).paths ≡ layer_cells coded.mode coded.layer },
-    ghost bit_middle: { vec_len bits.middle ≡ 204 * layer_cells coded.mode coded.layer * cell_bits coded.layer.modulation },
+    ghost bit_room: { vec_len bits.late ≡ 204 * layer_cells coded.mode coded.layer },
     ghost coded_room: { vec_len coded_bits ≡ 204 * layer_cells coded.mode coded.layer * cell_bits coded.layer.modulation },
-    ghost placed_room: { vec_len placed_bits ≡ 204 * layer_cells coded.mode coded.layer * cell_bits coded.layer.modulation },
+    ghost coded_number_room: { vec_len coded_numbers ≡ 204 * layer_cells coded.mode coded.layer },
     ghost cell_middle: { vec_len cells.middle ≡ 204 * layer_cells coded.mode coded.layer },
     ghost number_room: { vec_len numbers ≡ 204 * layer_cells coded.mode coded.layer },
     ghost placed_number_room: { vec_len placed_numbers ≡ 204 * layer_cells coded.mode coded.layer },
@@ -76,13 +76,12 @@ impl LayerCoder {
         let cell_count = 204 * symbol as usize;
         let bit_count = cell_count * width as usize;
         let coded = CodedLayer::open(alloc, setting, mode)?;
-        let stage = BitStage::open(alloc, modulation)?;
-        let bits = Adjusted::open(alloc, width * (2 * symbol - 120), stage, bit_count)?;
+        let bits = BitPaths::open(alloc, modulation, symbol, cell_count)?;
         let stage = LayerInter::open(alloc, setting, mode)?;
         let adjustment = adjust_of(mode, setting.depth()) * symbol;
         let cells = Adjusted::open(alloc, adjustment, stage, cell_count)?;
         let coded_bits = vec![in alloc; false; bit_count]?;
-        let placed_bits = vec![in alloc; false; bit_count]?;
+        let coded_numbers = vec![in alloc; 0; cell_count]?;
         let numbers = vec![in alloc; 0; cell_count]?;
         let placed_numbers = vec![in alloc; 0; cell_count]?;
         Ok(LayerCoder {
@@ -91,7 +90,7 @@ impl LayerCoder {
             bits,
             cells,
             coded_bits,
-            placed_bits,
+            coded_numbers,
             numbers,
             placed_numbers,
         })
@@ -111,9 +110,9 @@ impl LayerCoder {
         ensures layer { layer_of self.new ≡ layer_of self.old }
     {
         self.coded.frame(packets, &mut self.coded_bits);
-        self.bits.feed(&self.coded_bits, &mut self.placed_bits);
         let width = bits_per_cell(self.modulation) as usize;
-        number_cells(&self.placed_bits, width, &mut self.numbers);
+        number_cells(&self.coded_bits, width, &mut self.coded_numbers);
+        self.bits.feed(&self.coded_numbers, &mut self.numbers);
         self.cells.feed(&self.numbers, &mut self.placed_numbers);
         map_cells(self.modulation, &self.placed_numbers, out);
     }

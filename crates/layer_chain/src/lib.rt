@@ -15,7 +15,7 @@
 
 mod adjusted;
 mod bit_deinterleaver;
-mod bit_stage;
+mod bit_paths;
 mod cell_bits;
 mod cell_numbers;
 mod coded_layer;

@@ -1,5 +1,6 @@
-use Rattle.std.proofs.Common.{◌≢◌, ◌+◌, ◌-◌, ◌<◌, length, get_or, ap, ◌∙◌, arith, below_more, get_or-set_other, get_or-set_same}
+use Rattle.std.proofs.Common.{◌≡◌, ◌≢◌, ◌+◌, ◌-◌, ◌<◌, length, get_or, ap, ◌∙◌, arith, below_more, get_or-set_other, get_or-set_same}
 use Rattle.conv_punct.specs.declared.pattern.Sent.TheVariants.{X}
+use Rattle.isdbt_base.specs.Numbers.{rate_steps}
 use Rattle.conv_punct.specs.Sending.{sent_bit}
 use Rattle.conv_punct.proofs.PunctureLaws.{length-sent, sent-step, sent-coded}
 use Rattle.conv_punct.proofs.puncture.put_pattern.Goals as goal
@@ -28,8 +29,12 @@ returns-clause-coded c = λ u i before outputs place j h.
     let rate = c.args.rate in
     let sent = c.pattern_of-pattern.result.now in
     let size = length-sent rate sent c.pattern_of-pattern.ensures in
+    let small = sent-step rate sent j c.pattern_of-pattern.ensures (omega (arith, size, h)) in
+    let steps : c.rate_pair-steps.result.0 ≡ rate_steps rate = c.rate_pair-steps.ensures.steps in
+    let first : c.args.last + (c.rate_pair-steps.result.0 - 1) ≡ c.args.last + rate_steps rate - 1 = omega (arith, steps, small) in
     c.loop-index.invariant.sent j (omega (arith, size))
-    ∙ ap (λ k. sent_bit c.args.outputs.now (c.args.last + k - 1) (get_or sent j (X 0))) c.rate_pair-steps.ensures.steps
+    ∙ c.moved_down-moved.ensures (c.rate_pair-steps.result.0 - 1) (get_or sent j (X 0)) (omega (arith, steps, small))
+    ∙ ap (λ k. sent_bit c.args.outputs.now k (get_or sent j (X 0))) first
     ∙ sent-coded rate sent c.args.outputs.now u i before c.args.last j c.pattern_of-pattern.ensures h outputs place
 
 pub returns-clause-others : goal.returns-clause-others

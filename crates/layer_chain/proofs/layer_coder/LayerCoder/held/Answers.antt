@@ -1,14 +1,17 @@
-use Rattle.std.proofs.Common.{rules, ◌≡◌, ◌+◌, ◌*◌, [], length, get_or, subst, sym, ◌∙◌, arith}
+use Rattle.std.proofs.Common.{rules, ◌≡◌, ◌+◌, ◌-◌, ◌*◌, [], length, get_or, ap, subst, sym, ◌∙◌, arith}
 use Rattle.isdbt_base.specs.Numbers.{cell_bits, time_adjust}
 use Rattle.byte_inter.specs.BytePlaces.{byte_adjustment}
 use Rattle.byte_inter.specs.Layouts.{inter_layout}
-use Rattle.bit_inter.specs.BitPlaces.{bit_adjustment}
+use Rattle.bit_inter.specs.BitPlaces.{bit_delay}
+use Rattle.delay_line.proofs.LineLaws.{length-held_after}
 use Rattle.time_inter.specs.LayerStage as time
-use Rattle.layer_chain.specs.BitStage as bit
+use Rattle.layer_chain.specs.BitPaths.{path_delay}
+use Rattle.layer_chain.specs.BitPaths as bit
+use Rattle.layer_chain.specs.Streams.{first_of}
 use Rattle.layer_chain.specs.CodedLayer.{packets_of}
 use Rattle.layer_chain.specs.Held.{items_in}
-use Rattle.layer_chain.specs.LayerCoder.{mode_of, layer_of, cells_of}
-use Rattle.layer_chain.proofs.HeldItems.{delays, adjusted-items, byte-delays, bit-delays, cell-delays}
+use Rattle.layer_chain.specs.LayerCoder.{mode_of, layer_of, cells_of, coded_of, number_at}
+use Rattle.layer_chain.proofs.HeldItems.{delays, delays-shared, items_in-delays, adjusted-items, byte-delays, bit-delays, cell-delays}
 use Rattle.layer_chain.proofs.layer_coder.LayerCoder.held.Goals as goal
 
 pub returns-clause-bytes : goal.returns-clause-bytes
@@ -32,12 +35,14 @@ pub returns-clause-all_bits : goal.returns-clause-all_bits
 returns-clause-all_bits c = λ packet frames stands.
     let s = c.args.self.now in
     let v = cell_bits (layer_of s).modulation in
-    let a = bit_adjustment v (cells_of s) in
-    let items : length s.bits.line + items_in (bit.held_of s.bits.stage) v ≡ a + v * 60 =
-    subst (λ l. length s.bits.line + items_in (bit.held_of s.bits.stage) l.paths ≡ a + delays l.path_delay l.paths) stands.bit_layout (adjusted-items (bit.layout_of s.bits.stage) a s.bits.line (bit.held_of s.bits.stage) _ stands.bits_stand)
-    ∙ (let paths = bit-delays (layer_of s).modulation in omega (arith, paths)) in
+    let a = 2 * cells_of s - 120 in
+    let h = first_of (number_at v (coded_of s packet)) (204 * cells_of s * frames) in
+    let items : items_in (λ r. get_or (bit.lines_of s.bits) r []) v ≡ delays (path_delay v (cells_of s)) v =
+    items_in-delays (λ r. get_or (bit.lines_of s.bits) r []) (path_delay v (cells_of s)) v (λ r k. ap length (stands.bits_stand r (omega (arith, stands.bit_lines, k))) ∙ length-held_after (path_delay v (cells_of s) r) 0 h) in
+    let shared = delays-shared a (bit_delay v) v in
+    let paths = bit-delays (layer_of s).modulation in
     let value = returns-clause-bits c in
-    omega (arith, items, value)
+    omega (arith, items, shared, paths, value)
 
 pub returns-clause-all_cells : goal.returns-clause-all_cells
 returns-clause-all_cells c = λ packet frames stands.

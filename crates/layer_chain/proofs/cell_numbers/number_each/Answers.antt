@@ -2,7 +2,7 @@ use Rattle.std.proofs.Common.{◌≡◌, ◌≢◌, ◌+◌, ◌-◌, ◌*◌, �
 use Rattle.std.proofs.lemmas.List.{get_or-set_other, get_or-set_same, length-take-le}
 use Rattle.std.proofs.Math.Nat.{mul-add, mul-le-mul_left}
 use Rattle.layer_chain.proofs.CellNumbers.{cell_number-part}
-use Rattle.layer_chain.proofs.cell_numbers.number_cells.Goals as goal
+use Rattle.layer_chain.proofs.cell_numbers.number_each.Goals as goal
 
 pub loop-cell-preserved : goal.loop-cell-preserved
 loop-cell-preserved c =

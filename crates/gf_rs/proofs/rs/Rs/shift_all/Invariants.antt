@@ -3,7 +3,7 @@ use Rattle.std.specs.Prelude.{All}
 use Rattle.gf_rs.specs.Field.{gf_mul, gf_pow}
 use Rattle.gf_rs.specs.Codewords.{value_at}
 use Rattle.gf_rs.specs.Polynomials.{value_to}
-use Rattle.gf_rs.proofs.rs.Rs.parity.Given as goal
+use Rattle.gf_rs.proofs.rs.Rs.shift_all.Given as goal
 
 abbrev pub invariant-loop-byte : goal.invariant-loop-byte
 invariant-loop-byte g l = record {
