@@ -191,7 +191,7 @@ fn without_heads(
 ) -> Result<Vec<u8>, Fail> {
     let size = size_of(row).checked_div(row.frames).unwrap_or(0);
     let mut symbols = Vec::new(alloc);
-    for frame in written.chunks(size.wrapping_add(8)) {
+    for frame in written.chunks(size.wrapping_add(8).max(8)) {
         check(rt, frame.starts_with(&head_of(row)));
         symbols.extend_from_slice(frame.get(8..).unwrap_or(&[]))?;
     }

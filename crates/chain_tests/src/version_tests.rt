@@ -23,7 +23,7 @@ fn headed(alloc: Global, plan: &Plan, stream: &[u8]) -> Result<CodeEnd, Fail> {
 /// Checks that frames of this many bytes have this head, and answers how many there are.
 fn check_heads(rt: &impl Abort, frames: &[u8], size: usize, head: [u8; 8]) -> usize {
     let mut count = 0usize;
-    for frame in frames.chunks(size) {
+    for frame in frames.chunks(size.max(1)) {
         check_count(rt, frame.len(), size);
         check(rt, frame.starts_with(&head));
         count = count.wrapping_add(1);
