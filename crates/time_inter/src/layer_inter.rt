@@ -74,6 +74,11 @@ impl Stage for LayerInter {
     }
 
     fn feed(&mut self, input: &[u8], output: &mut [u8]) {
-        self.bank.feed(input, output);
+        if self.length == 0 {
+            // No path is late.
+            output.copy_from_slice(input);
+        } else {
+            self.bank.feed(input, output);
+        }
     }
 }
