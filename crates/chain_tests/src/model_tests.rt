@@ -178,7 +178,7 @@ fn head_of(row: &CellRow) -> [u8; 8] {
     };
     let useful = row.carriers.wrapping_mul(32) / 3;
     let guard = useful.checked_div(row.slots.wrapping_sub(useful));
-    let part = guard.unwrap_or(0) as u8;
+    let part = (guard.unwrap_or(0) % 256) as u8;
     [0x49, 0x53, 0x43, 0x32, mode, part, 0, 0]
 }
 
