@@ -1,11 +1,10 @@
 -- The commands one after another.
-use Rattle.std.proofs.Common.{◌≡◌, ℕ, ◌≤◌, List, [], ◌∷◌, None, Some, refl, sym, ◌∙◌, subst, arith, inl, inr}
+use Rattle.std.proofs.Common.{◌≡◌, ℕ, ◌≤◌, Bool, true, false, List, [], ◌∷◌, None, Some, refl, sym, ◌∙◌, subst, arith, inl, inr}
 use Rattle.std.proofs.lemmas.Bool.{cases_lt}
-use Rattle.std.specs.Prelude.{false}
 use Rattle.std.specs.declared.option.Option.{Option}
-use Rattle.isdbt_base.specs.declared.kinds.Mode.{Mode}
-use Rattle.isdbt_base.specs.declared.kinds.Guard.{Guard}
 use Rattle.isdbt_base.specs.declared.kinds.Layer.{Layer}
+use Rattle.isdbt_base.specs.declared.stream.Writing.{Writing}
+use Rattle.isdbt_base.specs.declared.stream.Form.{Form}
 use Rattle.isdbt_base.specs.Plans.{Transmission, Switch, Schedule, IsPlan, KeepsMode, at_frame, at_from}
 use Rattle.isdbt_base.proofs.PlanEpochs.{at_from-after, at_from-before}
 use Rattle.isdbt_base.specs.Frames.{FramePackets}
@@ -16,12 +15,12 @@ use Rattle.remux_core.specs.Multiplex.{multiplexed, broadcast}
 use Rattle.remux_core.specs.Parts.{IsGood}
 use Rattle.coder_core.specs.InputFrames.{first_head}
 use Rattle.coder_core.specs.CodeRefusals.{code_refusal, is_there, frames_from, coded_frame}
-use Rattle.coder_core.specs.SentCells.{frame_cells}
+use Rattle.coder_core.specs.SentCells.{sent_frame}
 use Rattle.coder_core.specs.Answers.{code_command}
 use Rattle.coder_core.proofs.BehindEnd.{free}
-use Rattle.seg_receiver.specs.CellStream.{View, first_version, AreInRow}
-use Rattle.seg_receiver.specs.Received.{received, received_frame}
-use Rattle.seg_receiver.specs.Delivered.{SendsIn, ArePackets, IsNear, delivered, delivered_packets}
+use Rattle.seg_receiver.specs.CellStream.{View, view_of, writing_of, AreInRow}
+use Rattle.seg_receiver.specs.Received.{received_frame}
+use Rattle.seg_receiver.specs.Delivered.{SendsIn, CanCarry, ArePackets, IsNear, delivered_packets}
 use Rattle.seg_receiver.proofs.AcceptedStream.{accepted-written}
 use Rattle.seg_receiver.proofs.CleanDelivered.{plan_cells-near}
 use Rattle.seg_receiver.proofs.CodedInput.{coded-near, coded-none}
@@ -30,7 +29,7 @@ use Rattle.seg_receiver.proofs.InputDelivered.{input_delivered}
 use Rattle.seg_receiver.proofs.MultiplexedBytes.{multiplexed-packets}
 use Rattle.seg_receiver.proofs.NearDelivered.{received_frame-near}
 use Rattle.seg_receiver.proofs.NearOutcome.{near_outcome}
-use Rattle.isdbt_cli.specs.Chain.{written_stream, IsReceivedAs, WroteNear, IsChain}
+use Rattle.isdbt_cli.specs.Chain.{written_stream, form_of, IsReceivedAs, WroteNear, IsChain}
 use Rattle.isdbt_cli.specs.FrameLimit.{frame_limit}
 
 -- a view that is near a plan is received as what is delivered of it, and so is each front part of it
@@ -40,20 +39,28 @@ near_received v p frames count plan row packets near few = record {
   product = λ m le. product-same (received_frame v) (broadcast p (delivered_packets p frames)) m (λ f less. received_frame-near v p frames count plan packets near f (omega (arith, le, less)));
 }
 
--- the cells of a plan are near it
-pub near_cells : (p : Schedule) (frames : FramePackets) (count : ℕ) (mode : Mode) (guard : Guard) → IsPlan p → SendsIn mode guard p count → ArePackets p frames count → IsNear (first_version mode guard (product (frame_cells p frames) count)) p frames count
-near_cells p frames count mode guard plan has packets = plan_cells-near mode guard p frames count plan has packets
+-- the cells of a plan are near it in each version of the stream that can carry it
+pub near_cells : (p : Schedule) (frames : FramePackets) (count : ℕ) (form : Form) → IsPlan p → CanCarry form p count → ArePackets p frames count
+    → IsNear (view_of form (product (sent_frame (writing_of form) p frames) count)) p frames count
+near_cells p frames count form plan carries packets = plan_cells-near form p frames count plan carries packets
 
-pub chain : (p : Schedule) (mode : Mode) (guard : Guard) (input : Layer → List ℕ) (count : ℕ) → IsPlan p → SendsIn mode guard p count → ((x : Layer) → IsGood (input x)) → ((x : Layer) → IsBytes (input x)) → count ≤ frame_limit → IsChain p input mode guard count
-chain p mode guard input count plan has good bytes few =
+-- what is coded of a multiplex is what is sent of it
+pub coded_multiplex : (how : Writing) (p : Schedule) (input : Layer → List ℕ) (count : ℕ) → IsPlan p → ((x : Layer) → IsGood (input x)) → ((x : Layer) → IsBytes (input x))
+    → product (coded_frame how p (written_stream p input count)) count ≡ product (sent_frame how p (multiplexed p input)) count
+coded_multiplex how p input count plan good bytes =
+    coded-broadcast how p (multiplexed p input) count plan (sizes_of p (multiplexed p input) count (multiplexed-packets p input count good bytes))
+
+pub chain : (p : Schedule) (form : Form) (input : Layer → List ℕ) (count : ℕ) → IsPlan p → CanCarry form p count → ((x : Layer) → IsGood (input x)) → ((x : Layer) → IsBytes (input x))
+    → count ≤ frame_limit → IsChain p input form count
+chain p form input count plan carries good bytes few =
     let sent = multiplexed-packets p input count good bytes in
-    let same = coded-broadcast p (multiplexed p input) count plan (sizes_of p (multiplexed p input) count sent) in
+    let same = coded_multiplex (writing_of form) p input count plan good bytes in
     let all = accepted-written p input count frame_limit plan good bytes few in
     record {
       coded = all;
       free = free p (written_stream p input count) frame_limit count all;
       cells = same;
-      near = subst (λ cells. IsNear (first_version mode guard cells) p (multiplexed p input) count) (sym same) (near_cells p (multiplexed p input) count mode guard plan has sent);
+      near = subst (λ cells. IsNear (view_of form cells) p (multiplexed p input) count) (sym same) (near_cells p (multiplexed p input) count form plan carries sent);
       packets = sent;
       places = input_delivered p input;
     }
@@ -76,19 +83,45 @@ keeps_frame p f k = keeps_from p.first 0 p.switches f k
 pub sends_alike : (p : Schedule) (count : ℕ) → KeepsMode p.first p.switches → SendsIn p.first.mode p.first.guard p count
 sends_alike p count keeps f less = keeps_frame p f keeps
 
--- its cells are near the packets that were found
-found_near : (p : Schedule) (input : List ℕ) (m : ℕ) (o : Option ℕ) → IsPlan p → KeepsMode p.first p.switches → IsBytes input → ArePassed (code_refusal p input frame_limit) (is_there p input) m → first_head input ≡ o
-    → ArePackets p (frames_from p input o) m × IsNear (first_version p.first.mode p.first.guard (product (coded_frame p input) m)) p (frames_from p input o) m
-found_near p input m None plan keeps bytes passed found =
-    let empty = coded-none p input m frame_limit passed found in
+-- ---- the version that a coding writes
+
+pub written_so : (how : Writing) (p : Schedule) → writing_of (form_of how p) ≡ how
+written_so how p = go how.v2
+  where
+    go : (v2 : Bool) → writing_of (form_of (record { v2 = v2 }) p) ≡ record { v2 = v2 }
+    go true = refl
+    go false = refl
+
+-- it can carry a plan that keeps its mode and guard interval in version 1
+pub can_carry : (how : Writing) (p : Schedule) (count : ℕ) → (how.v2 ≡ false → KeepsMode p.first p.switches) → CanCarry (form_of how p) p count
+can_carry how p count keeps = go how.v2 keeps
+  where
+    go : (v2 : Bool) → (v2 ≡ false → KeepsMode p.first p.switches) → CanCarry (form_of (record { v2 = v2 }) p) p count
+    go true keeps = tt
+    go false keeps = sends_alike p count (keeps refl)
+
+-- in a version that can carry the plan, the cells of an input are near the packets that are found in it
+found_near : (form : Form) (p : Schedule) (input : List ℕ) (m : ℕ) (o : Option ℕ) → IsPlan p → CanCarry form p m → IsBytes input
+    → ArePassed (code_refusal p input frame_limit) (is_there p input) m → first_head input ≡ o
+    → ArePackets p (frames_from p input o) m × IsNear (view_of form (product (coded_frame (writing_of form) p input) m)) p (frames_from p input o) m
+found_near form p input m None plan carries bytes passed found =
+    let how = writing_of form in
+    let empty = coded-none how p input m frame_limit passed found in
     let frames : FramePackets = frames_from p input None in
     let packets : ArePackets p frames m = λ f j x l less used within. absurd (omega (arith, less, empty.0)) in
-    let near = near_cells p frames m p.first.mode p.first.guard plan (sends_alike p m keeps) packets in
-    let same : product (frame_cells p frames) m ≡ product (coded_frame p input) m = product-same (frame_cells p frames) (coded_frame p input) m (λ f less. absurd (omega (arith, less, empty.0))) in
-    (packets, subst (λ cells. IsNear (first_version p.first.mode p.first.guard cells) p frames m) same near)
-found_near p input m (Some head) plan keeps bytes passed found = coded-near p.first.mode p.first.guard p input m frame_limit head plan bytes passed (sends_alike p m keeps) found
+    let near = near_cells p frames m form plan carries packets in
+    let same : product (sent_frame how p frames) m ≡ product (coded_frame how p input) m = product-same (sent_frame how p frames) (coded_frame how p input) m
+    (λ f less. absurd (omega (arith, less, empty.0))) in
+    (packets, subst (λ cells. IsNear (view_of form cells) p frames m) same near)
+found_near form p input m (Some head) plan carries bytes passed found = coded-near form p input m frame_limit head plan bytes passed carries found
 
-pub wrote_near : (p : Schedule) (input : List ℕ) (m : ℕ) (before after left : Option (List ℕ)) → IsPlan p → KeepsMode p.first p.switches → IsBytes input → Finished (code_command p input frame_limit) m before after left → WroteNear p input m before after
-wrote_near p input m before after left plan keeps bytes done =
-    let near = found_near p input m (first_head input) plan keeps bytes done.ended.outcome.before refl in
-    record { packets = near.0; near = near.1; written = done.ended.written }
+pub wrote_near : (how : Writing) (p : Schedule) (input : List ℕ) (m : ℕ) (before after left : Option (List ℕ)) → IsPlan p → (how.v2 ≡ false → KeepsMode p.first p.switches) → IsBytes input
+    → Finished (code_command how p input frame_limit) m before after left → WroteNear how p input m before after
+wrote_near how p input m before after left plan keeps bytes done =
+    let form = form_of how p in
+    let found = found_near form p input m (first_head input) plan (can_carry how p m keeps) bytes done.ended.outcome.before refl in
+    record {
+      packets = found.0;
+      near = subst (λ w. IsNear (view_of form (product (coded_frame w p input) m)) p (frames_from p input (first_head input)) m) (written_so how p) found.1;
+      written = done.ended.written;
+    }

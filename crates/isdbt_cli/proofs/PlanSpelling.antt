@@ -7,7 +7,7 @@ use Rattle.isdbt_base.specs.declared.kinds.Mode.{Mode}
 use Rattle.isdbt_base.specs.declared.kinds.Mode.TheVariants.{M1, M2, M3}
 use Rattle.isdbt_base.specs.declared.kinds.Guard.{Guard}
 use Rattle.isdbt_base.specs.Parameters.{Parameters, IsAccepted}
-use Rattle.isdbt_base.specs.Plans.{Transmission, Switch, Schedule, IsPlan, RisesFrom, KeepsMode}
+use Rattle.isdbt_base.specs.Plans.{Transmission, Switch, Schedule, IsPlan, RisesFrom}
 use Rattle.isdbt_base.specs.Epochs.{last_start_from, last_sent_from, last_start}
 use Rattle.isdbt_base.specs.Switching.{with_switch}
 use Rattle.isdbt_cli.specs.CommandLines.{Word, mode_word, guard_word, setting_word, frame_word, told_words, switch_words, IsIn, SpellSwitches}
@@ -118,14 +118,6 @@ rises_front last first (w ∷ ws) vs r = (r.0, r.1, r.2, r.3, rises_front w.fram
 rises_behind : (last : ℕ) (first : Parameters) (ws vs : List Switch) → RisesFrom last first (ws ++ vs) → RisesFrom (last_start_from last ws) first vs
 rises_behind last first [] vs r = r
 rises_behind last first (w ∷ ws) vs r = rises_behind w.frame first ws vs r.4
-
-pub keeps_behind : (t : Transmission) (ws vs : List Switch) → KeepsMode t (ws ++ vs) → KeepsMode (last_sent_from t ws) vs
-keeps_behind t [] vs k = k
-keeps_behind t (w ∷ ws) vs k = keeps_behind w.after ws vs k.2
-
-pub keeps_more : (t : Transmission) (ws vs : List Switch) → KeepsMode t ws → KeepsMode (last_sent_from t ws) vs → KeepsMode t (ws ++ vs)
-keeps_more t [] vs k m = m
-keeps_more t (w ∷ ws) vs k m = (k.0, k.1, keeps_more w.after ws vs k.2 m)
 
 -- ---- plans behind a front of them
 

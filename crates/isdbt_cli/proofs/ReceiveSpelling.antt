@@ -30,7 +30,7 @@ pub record IsReceive (words : List Word) : Type 0 where
 
 pub followed : (words : List Word) → Follows (codes "receive") words → IsReceive words
 followed words (remux p a b c, s) = absurd (remux_or_receive (sym (same_head (remux_spelled p a b c (codes "receive" ∷ words) s.spelled).2)))
-followed words (code p name, s) = absurd (code_or_receive (sym (same_head (code_spelled p name (codes "receive" ∷ words) s.spelled).2)))
+followed words (code p how name, s) = absurd (code_or_receive (sym (same_head (code_spelled p how name (codes "receive" ∷ words) s.spelled).2)))
 followed words (receive m g name, s) = record { mode = m; guard = g; name = name; some = s.command; words_are = same_tail (receive_spelled m g name (codes "receive" ∷ words) s.spelled) }
 
 -- a mode may follow, and must

@@ -51,10 +51,21 @@ unfolding digits
 told = (true, codes "@30" ∷ codes "2" ∷ codes "1/8" ∷ codes "A:13:qpsk:3/4:2" ∷ [], refl, λ e. absurd (cc), (true, [], refl, λ e. absurd (cc), refl))
 
 -- a coding
-coding : SpellCommand (code (record { first = record { mode = M3; guard = G8; setting = record { partial = true; a = record { segments = 1; modulation = Qpsk; rate = R23; depth = D3 }; b = Some (record { segments = 12; modulation = Qam64; rate = R34; depth = D2 }); c = None } }; switches = [] }) (codes "x.bts"))
+coding : SpellCommand (code (record { first = record { mode = M3; guard = G8; setting = record { partial = true; a = record { segments = 1; modulation = Qpsk; rate = R23; depth = D3 }; b = Some (record { segments = 12; modulation = Qam64; rate = R34; depth = D2 }); c = None } }; switches = [] }) (record { v2 = false }) (codes "x.bts"))
     (codes "code" ∷ codes "3" ∷ codes "1/8" ∷ codes "A:1:qpsk:2/3:4:partial,B:12:64qam:3/4:2" ∷ codes "IN=x.bts" ∷ [])
 unfolding SpellCommand digits
 coding = (codes "3" ∷ codes "1/8" ∷ codes "A:1:qpsk:2/3:4:partial,B:12:64qam:3/4:2" ∷ [], record { behind = []; first = refl; switches = refl }, refl)
+
+-- the same switches, of which the last changes the mode: in version 2
+changing : SpellCommand (code (record { first = first; switches = later }) (record { v2 = true }) (codes "x"))
+    (codes "code" ∷ codes "1" ∷ codes "1/4" ∷ codes "A:13:qpsk:1/2:0" ∷ codes "@20" ∷ codes "A:13:qpsk:3/4:4" ∷ codes "@30" ∷ codes "2" ∷ codes "1/8" ∷ codes "A:13:qpsk:3/4:2"
+    ∷ codes "IN=x" ∷ codes "v2" ∷ [])
+unfolding SpellCommand digits
+changing = (
+  codes "1" ∷ codes "1/4" ∷ codes "A:13:qpsk:1/2:0" ∷ codes "@20" ∷ codes "A:13:qpsk:3/4:4" ∷ codes "@30" ∷ codes "2" ∷ codes "1/8" ∷ codes "A:13:qpsk:3/4:2" ∷ [],
+  record { behind = codes "@20" ∷ codes "A:13:qpsk:3/4:4" ∷ codes "@30" ∷ codes "2" ∷ codes "1/8" ∷ codes "A:13:qpsk:3/4:2" ∷ []; first = refl; switches = kept },
+  refl,
+)
 
 -- a receiving
 receiving : SpellCommand (receive M2 G16 (codes "x.cells")) (codes "receive" ∷ codes "2" ∷ codes "1/16" ∷ codes "IN=x.cells" ∷ [])

@@ -8,6 +8,7 @@ use Rattle.isdbt_base.specs.declared.kinds.Guard.{Guard}
 use Rattle.isdbt_base.specs.declared.kinds.Layer.{Layer}
 use Rattle.isdbt_base.specs.Outcome.{product, IsOutcome}
 use Rattle.isdbt_base.specs.Plans.{Schedule}
+use Rattle.isdbt_base.specs.declared.stream.Writing.{Writing}
 use Rattle.edge_io.specs.declared.shelf.Seat.{Seat}
 use Rattle.edge_io.specs.declared.shelf.Seat.TheVariants as seats
 use Rattle.edge_io.specs.Known.{append_known}
@@ -16,7 +17,6 @@ use Rattle.edge_io.specs.FrameAnswers.{lone_account, Finished, LoneAnswer}
 use Rattle.remux_core.specs.declared.fault.RemuxFault.{RemuxFault}
 use Rattle.remux_core.specs.declared.fault.RemuxFault.TheVariants as remux_faults
 use Rattle.remux_core.specs.Parts.{IsGood}
-use Rattle.remux_core.specs.Refusals.{refusal}
 use Rattle.remux_core.specs.Answers.{remux_kind, remux_command, remux_account, IsInputSeat, RemuxAnswer}
 use Rattle.remux_core.proofs.Refusing.{refusal-good}
 use Rattle.coder_core.specs.declared.fault.CodeFault.{CodeFault}
@@ -43,7 +43,7 @@ use Rattle.isdbt_cli.proofs.Outcomes.{remux_keeps, code_keeps, receive_keeps, no
 -- a command isn't refused for its words
 not_usage : (c : Command) (shelf shelf' : Cause → ℕ) (sink sink' : ℕ) (outcome : Outcome) (word : ℕ) → CauseOf c shelf shelf' sink sink' outcome → outcome ≡ Fault (Usage word) → ⊥
 not_usage (remux p a b c) shelf shelf' sink sink' outcome word cause e = no_usage run_fault_of remux_kind _ _ outcome word remux_keeps cause e
-not_usage (code p name) shelf shelf' sink sink' outcome word cause e = no_usage run_fault_of_code code_kind _ _ outcome word code_keeps cause e
+not_usage (code p how name) shelf shelf' sink sink' outcome word cause e = no_usage run_fault_of_code code_kind _ _ outcome word code_keeps cause e
 not_usage (receive mode guard name) shelf shelf' sink sink' outcome word cause e = no_usage run_fault_of_receive receive_kind _ _ outcome word receive_keeps cause e
 
 pub ok_usage : (words : List Word) (c : Command) (shelf shelf' : Cause → ℕ) (sink sink' : ℕ) (outcome : Outcome) (word : ℕ) → Spells words c → CauseOf c shelf shelf' sink sink' outcome → (outcome ≡ Fault (Usage word)) ↔ IsFaultAt words word
@@ -66,10 +66,10 @@ lone_named name seat reads = (name, ap (lone_name name) reads)
 
 -- ---- no refusal and no fault of the outside leave one answer and want of memory
 
-answer_done : (p : Schedule) (input : List ℕ) (before after left : Option (List ℕ)) (m : ℕ) (r : Result ℕ CodeFault) → outcome_of run_fault_of_code r ≡ Done m → LoneAnswer code_kind (code_command p input frame_limit) before after left r
-    → Finished (code_command p input frame_limit) m before after left
-answer_done p input before after left m (Ok k) same says = (let count : k ≡ m = cc in subst (λ i. Finished (code_command p input frame_limit) i before after left) count says)
-answer_done p input before after left m (Err f) same says = absurd (cc)
+answer_done : (how : Writing) (p : Schedule) (input : List ℕ) (before after left : Option (List ℕ)) (m : ℕ) (r : Result ℕ CodeFault) → outcome_of run_fault_of_code r ≡ Done m → LoneAnswer code_kind (code_command how p input frame_limit) before after left r
+    → Finished (code_command how p input frame_limit) m before after left
+answer_done how p input before after left m (Ok k) same says = (let count : k ≡ m = cc in subst (λ i. Finished (code_command how p input frame_limit) i before after left) count says)
+answer_done how p input before after left m (Err f) same says = absurd (cc)
 
 module _ (holds : Word → Option (List ℕ)) (before after : Option (List ℕ)) (left : Seat → Option (List ℕ)) (shelf shelf' : Cause → ℕ) (sink sink' : ℕ) (outcome : Outcome) where
   pub complete : (c : Command) → IsCommand c → AnswerOf c holds before after left outcome → CauseOf c shelf shelf' sink sink' outcome → NothingRose (names_of c) shelf shelf' sink sink' → RefusesNone c holds → IsDoneOrNoMemory outcome
@@ -77,10 +77,10 @@ module _ (holds : Word → Option (List ℕ)) (before after : Option (List ℕ))
       quiet run_fault_of remux_kind remux_keeps (remux_command p free.0 frame_limit) (remux_account p free.0 frame_limit left) (IsInputSeat p) (layer_names a b n) before after shelf shelf' sink sink'
       (layer_named p a b n is) none IsDoneOrNoMemory tt (λ f r. absurd (let at = r.ended.outcome.at in let fine = free.2 r.frame in cc))
       (RemuxAnswer p free.0 frame_limit before after left) outcome (λ m done. tt) (λ f fault. fault) (says free.0 free.1) cause
-  complete (code p name) is says cause none free =
-      quiet run_fault_of_code code_kind code_keeps (code_command p free.0 frame_limit).frames (lone_account (code_command p free.0 frame_limit) (left seats.In)) (λ seat. seat ≡ seats.In) (lone_name name) before after shelf shelf' sink sink'
+  complete (code p how name) is says cause none free =
+      quiet run_fault_of_code code_kind code_keeps (code_command how p free.0 frame_limit).frames (lone_account (code_command how p free.0 frame_limit) (left seats.In)) (λ seat. seat ≡ seats.In) (lone_name name) before after shelf shelf' sink sink'
       (lone_named name) none IsDoneOrNoMemory tt (λ f r. absurd (let at = r.ended.outcome.at in let fine = free.2 r.frame in cc))
-      (LoneAnswer code_kind (code_command p free.0 frame_limit) before after (left seats.In)) outcome (λ m done. tt) (λ f fault. fault) (says free.0 free.1) cause
+      (LoneAnswer code_kind (code_command how p free.0 frame_limit) before after (left seats.In)) outcome (λ m done. tt) (λ f fault. fault) (says free.0 free.1) cause
   complete (receive mode guard name) is says cause none free =
       quiet run_fault_of_receive receive_kind receive_keeps (receive_command (first_version mode guard free.0) false free.0 frame_limit).frames (lone_account (receive_command (first_version mode guard free.0) false free.0 frame_limit) (left seats.In)) (λ seat. seat ≡ seats.In) (lone_name name) before after shelf shelf' sink sink'
       (lone_named name) none IsDoneOrNoMemory tt (λ f r. absurd (let at = r.ended.outcome.at in let fine = free.2 r.frame in cc))
@@ -100,13 +100,13 @@ module _ (holds : Word → Option (List ℕ)) (before after : Option (List ℕ))
   -- ---- what is coded and received
 
   -- all frames were passed: just these bytes were written
-  pub coded : (p : Schedule) (name : Word) (input : List ℕ) (count : ℕ) (cells : List ℕ) → EndsSo run_fault_of_code (λ seat. after ≡ before) (LoneAnswer code_kind (code_command p input frame_limit) before after (left seats.In)) outcome → CauseOf (code p name) shelf shelf' sink sink' outcome
-      → NothingRose (lone_name name) shelf shelf' sink sink' → IsOutcome (code_refusal p input frame_limit) (is_there p input) count None → product (coded_frame p input) count ≡ cells → IsDoneWith count cells before after outcome
-  coded p name input count cells says cause none all same =
-      quiet run_fault_of_code code_kind code_keeps (code_command p input frame_limit).frames (lone_account (code_command p input frame_limit) (left seats.In)) (λ seat. seat ≡ seats.In) (lone_name name) before after shelf shelf' sink sink'
+  pub coded : (how : Writing) (p : Schedule) (name : Word) (input : List ℕ) (count : ℕ) (cells : List ℕ) → EndsSo run_fault_of_code (λ seat. after ≡ before) (LoneAnswer code_kind (code_command how p input frame_limit) before after (left seats.In)) outcome → CauseOf (code p how name) shelf shelf' sink sink' outcome
+      → NothingRose (lone_name name) shelf shelf' sink sink' → IsOutcome (code_refusal p input frame_limit) (is_there p input) count None → product (coded_frame how p input) count ≡ cells → IsDoneWith count cells before after outcome
+  coded how p name input count cells says cause none all same =
+      quiet run_fault_of_code code_kind code_keeps (code_command how p input frame_limit).frames (lone_account (code_command how p input frame_limit) (left seats.In)) (λ seat. seat ≡ seats.In) (lone_name name) before after shelf shelf' sink sink'
       (lone_named name) none (IsDoneWith count cells before after) tt (λ f r. absurd (no_refusal (code_refusal p input frame_limit) (is_there p input) count r.frame f all r.ended.outcome))
-      (LoneAnswer code_kind (code_command p input frame_limit) before after (left seats.In)) outcome
-      (λ m done. (let e = same_count (code_refusal p input frame_limit) (is_there p input) m count None None done.ended.outcome all in (e, done.ended.written ∙ ap (λ k. append_known before (product (coded_frame p input) k)) e ∙ ap (append_known before) same)))
+      (LoneAnswer code_kind (code_command how p input frame_limit) before after (left seats.In)) outcome
+      (λ m done. (let e = same_count (code_refusal p input frame_limit) (is_there p input) m count None None done.ended.outcome all in (e, done.ended.written ∙ ap (λ k. append_known before (product (coded_frame how p input) k)) e ∙ ap (append_known before) same)))
       (λ f fault. fault) says cause
 
   pub given : (mode : Mode) (guard : Guard) (name : Word) (stream : List ℕ) (count : ℕ) (packets : List ℕ) → EndsSo run_fault_of_receive (λ seat. after ≡ before) (LoneAnswer receive_kind (receive_command (first_version mode guard stream) false stream frame_limit) before after (left seats.In)) outcome → CauseOf (receive mode guard name) shelf shelf' sink sink' outcome
@@ -120,9 +120,9 @@ module _ (holds : Word → Option (List ℕ)) (before after : Option (List ℕ))
       (λ f fault. fault) says cause
 
   -- a coding that is done came to the end of its frames
-  pub coded_done : (p : Schedule) (input : List ℕ) (m : ℕ) → EndsSo run_fault_of_code (λ seat. after ≡ before) (LoneAnswer code_kind (code_command p input frame_limit) before after (left seats.In)) outcome → outcome ≡ Done m → Finished (code_command p input frame_limit) m before after (left seats.In)
-  coded_done p input m (inl o) e = absurd (let failed = o.1 in cc)
-  coded_done p input m (inr r) e = answer_done p input before after (left seats.In) m r.0 (sym r.1 ∙ e) r.2
+  pub coded_done : (how : Writing) (p : Schedule) (input : List ℕ) (m : ℕ) → EndsSo run_fault_of_code (λ seat. after ≡ before) (LoneAnswer code_kind (code_command how p input frame_limit) before after (left seats.In)) outcome → outcome ≡ Done m → Finished (code_command how p input frame_limit) m before after (left seats.In)
+  coded_done how p input m (inl o) e = absurd (let failed = o.1 in cc)
+  coded_done how p input m (inr r) e = answer_done how p input before after (left seats.In) m r.0 (sym r.1 ∙ e) r.2
 
 -- ---- the command that the words spell
 

@@ -15,7 +15,7 @@ use Rattle.isdbt_cli.specs.Parsing.{Unread, BeginsWith, IsStuck, Reads, Follows,
 use Rattle.isdbt_cli.proofs.Stuck.{stuck_behind, reads_none, AnyCommand, fault_at}
 use Rattle.isdbt_cli.proofs.Transmissions.{some_setting, some_accepted, same_head, same_tail}
 use Rattle.isdbt_cli.proofs.PlanSpelling.{begins_at}
-use Rattle.isdbt_cli.proofs.PlanLines.{NamesOf, names_words, spell_remux, remux_spelled, code_spelled, receive_spelled, some_named, some_inputs, line_follows, follows_line, line_behind}
+use Rattle.isdbt_cli.proofs.PlanLines.{NamesOf, names_words, code_words, spell_remux, remux_spelled, code_spelled, receive_spelled, some_named, some_inputs, line_follows, follows_line, line_behind}
 use Rattle.isdbt_cli.proofs.PlanLines.{inputs_behind, inputs_next, sent_follows}
 
 -- ---- behind a plan
@@ -24,17 +24,17 @@ use Rattle.isdbt_cli.proofs.PlanLines.{inputs_behind, inputs_next, sent_follows}
 abbrev pub Line : List Word → List Word → Type 0
 Line read words = Follows (codes "remux") (read ++ words)
 
-pub follows : (p : Schedule) (read words : List Word) → SpellsPlan false p read → NamesOf p.first.setting words → Line read words
+pub follows : (p : Schedule) (read words : List Word) → SpellsPlan p read → NamesOf p.first.setting words → Line read words
 follows p read words s n = line_follows false (read ++ words) (record { p = p; read = read; spells = s; rest = words; inputs = n; words_are = refl })
 
-followed : (p : Schedule) (read words : List Word) → SpellsPlan false p read → begins_at words ≡ false → Line read words → NamesOf p.first.setting words
+followed : (p : Schedule) (read words : List Word) → SpellsPlan p read → begins_at words ≡ false → Line read words → NamesOf p.first.setting words
 followed p read words s begins f = inputs_behind false p words (line_behind false p read words s (follows_line false (read ++ words) f)) begins
 
 -- the name of layer A's input
-pub follows_some : (p : Schedule) (read : List Word) → SpellsPlan false p read → (more : List Word) × Line read more
-follows_some p read s = (let n = some_inputs false p.first.setting in (n.0, follows p read n.0 s n.1))
+pub follows_some : (p : Schedule) (read : List Word) → SpellsPlan p read → (more : List Word) × Line read more
+follows_some p read s = (let n = some_inputs false p in (n.0, follows p read n.0 s n.1))
 
-pub a_follows : (p : Schedule) (read : List Word) (v : Unread) → SpellsPlan false p read → HasNoFrame p v → (ws : List Word) → Line read ws
+pub a_follows : (p : Schedule) (read : List Word) (v : Unread) → SpellsPlan p read → HasNoFrame p v → (ws : List Word) → Line read ws
     → take 1 ws ≡ take 1 v.words → BeginsWith IsName (λ a. (codes "A=" ++ a) ∷ []) ws
 a_follows p read v s none ws f heads =
     let n = inputs_next false p ws v (line_behind false p read ws s (follows_line false (read ++ ws) f)) none heads in
@@ -44,13 +44,13 @@ a_follows p read v s none ws f heads =
 abbrev pub read_a : Word → List Word
 read_a a = (codes "A=" ++ a) ∷ []
 
-pub follows_b : (p : Schedule) (read : List Word) (a : Word) → SpellsPlan false p read → IsName a → (o : Option Word)
+pub follows_b : (p : Schedule) (read : List Word) (a : Word) → SpellsPlan p read → IsName a → (o : Option Word)
     → IsNameIfGiven o × (is_some o ≡ is_some p.first.setting.b) → (more : List Word) × Line read (read_a a ++ (named (codes "B=") o ++ more))
 follows_b p read a s name o given =
     let c = some_named (is_some p.first.setting.c) in
     (named (codes "C=") c.0, follows p read (names_words a o c.0) s (record { a = a; b = o; c = c.0; a_name = name; b_name = given.0; c_name = c.1; b_used = given.1; c_used = c.2; words_are = refl }))
 
-pub b_follows : (p : Schedule) (read : List Word) (a : Word) → SpellsPlan false p read → (ws : List Word) → Line read (read_a a ++ ws)
+pub b_follows : (p : Schedule) (read : List Word) (a : Word) → SpellsPlan p read → (ws : List Word) → Line read (read_a a ++ ws)
     → BeginsWith (λ o. IsNameIfGiven o × (is_some o ≡ is_some p.first.setting.b)) (named (codes "B=")) ws
 b_follows p read a s ws f = (let n = followed p read ((codes "A=" ++ a) ∷ ws) s refl f in (n.b, (n.b_name, n.b_used), named (codes "C=") n.c, same_tail n.words_are))
 
@@ -64,13 +64,13 @@ named_behind None (Some y) c ws same e = absurd (cc)
 named_behind (Some x) None c ws same e = absurd (cc)
 named_behind (Some x) (Some y) c ws same e = same_tail e
 
-names_follow : (p : Schedule) (read : List Word) (a : Word) (b : Option Word) → SpellsPlan false p read → is_some b ≡ is_some p.first.setting.b → (ws : List Word)
+names_follow : (p : Schedule) (read : List Word) (a : Word) (b : Option Word) → SpellsPlan p read → is_some b ≡ is_some p.first.setting.b → (ws : List Word)
     → Line read (read_b a b ++ ws) → (c : Option Word) × IsNameIfGiven c × (is_some c ≡ is_some p.first.setting.c) × (ws ≡ named (codes "C=") c)
 names_follow p read a b s used ws f =
     let n = followed p read ((codes "A=" ++ a) ∷ (named (codes "B=") b ++ ws)) s refl f in
     (n.c, n.c_name, n.c_used, named_behind b n.b n.c ws (used ∙ sym n.b_used) (same_tail n.words_are))
 
-pub follows_c : (p : Schedule) (read : List Word) (a : Word) (b : Option Word) → SpellsPlan false p read → IsName a
+pub follows_c : (p : Schedule) (read : List Word) (a : Word) (b : Option Word) → SpellsPlan p read → IsName a
     → IsNameIfGiven b × (is_some b ≡ is_some p.first.setting.b) → (o : Option Word) → IsNameIfGiven o × (is_some o ≡ is_some p.first.setting.c)
     → (more : List Word) × Line read (read_b a b ++ (named (codes "C=") o ++ more))
 follows_c p read a b s name given o given' = (
@@ -88,7 +88,7 @@ follows_c p read a b s name given o given' = (
   }),
 )
 
-pub c_follows : (p : Schedule) (read : List Word) (a : Word) (b : Option Word) → SpellsPlan false p read → is_some b ≡ is_some p.first.setting.b → (ws : List Word)
+pub c_follows : (p : Schedule) (read : List Word) (a : Word) (b : Option Word) → SpellsPlan p read → is_some b ≡ is_some p.first.setting.b → (ws : List Word)
     → Line read (read_b a b ++ ws) → BeginsWith (λ o. IsNameIfGiven o × (is_some o ≡ is_some p.first.setting.c)) (named (codes "C=")) ws
 c_follows p read a b s used ws f = (let n = names_follow p read a b s used ws f in (n.0, (n.1, n.2), [], n.3 ∙ sym (append-nil (named (codes "C=") n.0))))
 
@@ -96,7 +96,7 @@ c_follows p read a b s used ws f = (let n = names_follow p read a b s used ws f 
 abbrev pub read_c : Word → Option Word → Option Word → List Word
 read_c a b c = read_b a b ++ named (codes "C=") c
 
-pub follows_end : (p : Schedule) (read : List Word) (a : Word) (b c : Option Word) → SpellsPlan false p read → IsName a
+pub follows_end : (p : Schedule) (read : List Word) (a : Word) (b c : Option Word) → SpellsPlan p read → IsName a
     → IsNameIfGiven b × (is_some b ≡ is_some p.first.setting.b) → IsNameIfGiven c × (is_some c ≡ is_some p.first.setting.c) → Line read (read_c a b c)
 follows_end p read a b c s name given given' =
     follows p read (names_words a b c) s (record { a = a; b = b; c = c; a_name = name; b_name = given.0; c_name = given'.0; b_used = given.1; c_used = given'.1; words_are = refl })
@@ -107,7 +107,7 @@ third_behind None (Some y) ws same e = absurd (cc)
 third_behind (Some x) None ws same e = absurd (cc)
 third_behind (Some x) (Some y) ws same e = same_tail e
 
-pub end_follows : (p : Schedule) (read : List Word) (a : Word) (b c : Option Word) → SpellsPlan false p read → is_some b ≡ is_some p.first.setting.b
+pub end_follows : (p : Schedule) (read : List Word) (a : Word) (b c : Option Word) → SpellsPlan p read → is_some b ≡ is_some p.first.setting.b
     → is_some c ≡ is_some p.first.setting.c → (ws : List Word) → Line read (read_c a b c ++ ws) → ws ≡ []
 end_follows p read a b c s used used' ws f =
     let n = names_follow p read a b s used (named (codes "C=") c ++ ws) (subst (Line read) (append_assoc (read_b a b) (named (codes "C=") c) ws) f) in
@@ -122,21 +122,21 @@ behind_plan read u v place r s = stuck_behind (Line read) (Follows (codes "remux
 -- a command's first word
 abbrev pub name_of : Command → Word
 name_of (remux p a b c) = codes "remux"
-name_of (code p name) = codes "code"
+name_of (code p how name) = codes "code"
 name_of (receive mode guard name) = codes "receive"
 
 pub first_word : (c : Command) (words : List Word) → SpellCommand c words → (rest : List Word) × (words ≡ name_of c ∷ rest)
 first_word (remux p a b c) words s = (let k = remux_spelled p a b c words s in (k.0 ++ names_words a b c, k.2))
-first_word (code p name) words s = (let k = code_spelled p name words s in (k.0 ++ (codes "IN=" ++ name) ∷ [], k.2))
+first_word (code p how name) words s = (let k = code_spelled p how name words s in (k.0 ++ code_words how name, k.2))
 first_word (receive mode guard name) words s = (mode_word mode ∷ guard_word guard ∷ (codes "IN=" ++ name) ∷ [], receive_spelled mode guard name words s)
 
 -- another word than a command's is none's first
 no_name : (w : Word) (c : Command) → w ≢ codes "remux" → w ≢ codes "code" → w ≢ codes "receive" → w ≢ name_of c
 no_name w (remux p a b c) not_remux not_code not_receive = not_remux
-no_name w (code p name) not_remux not_code not_receive = not_code
+no_name w (code p how name) not_remux not_code not_receive = not_code
 no_name w (receive mode guard name) not_remux not_code not_receive = not_receive
 
-pub spells : (p : Schedule) (read : List Word) (a : Word) (b c : Option Word) (words : List Word) → SpellsPlan false p read → IsName a
+pub spells : (p : Schedule) (read : List Word) (a : Word) (b c : Option Word) (words : List Word) → SpellsPlan p read → IsName a
     → IsNameIfGiven b × (is_some b ≡ is_some p.first.setting.b) → IsNameIfGiven c × (is_some c ≡ is_some p.first.setting.c)
     → words ≡ read ++ read_c a b c → Spells (codes "remux" ∷ words) (remux p a b c)
 spells p read a b c words s name given given' e = record {

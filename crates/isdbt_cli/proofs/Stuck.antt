@@ -109,7 +109,7 @@ pub stuck_here : (M : List Word → Type 0) (read : List Word) (u v : Unread) (p
     → ((ws : List Word) → M (read ++ ws) → take 1 ws ≡ take 1 v.words → ⊥) → IsStuck M u p
 stuck_here M read u v p r at goes never = record { front = read; rest = v.words; split = r.split; place_is = at ∙ r.place; goes_on = goes; stuck = never }
 
-not_none : (xs : List Word) → xs ≢ [] → [] ≡ take 1 xs → ⊥
+pub not_none : (xs : List Word) → xs ≢ [] → [] ≡ take 1 xs → ⊥
 not_none [] some e = some refl
 not_none (x ∷ xs) some e = absurd (cc)
 

@@ -23,8 +23,8 @@ use Rattle.isdbt_cli.proofs.PlanSpelling.{no_setting}
 
 -- ---- behind a frame
 
-abbrev pub Changes : Bool → Parameters → Mode → Guard → List Word → Type 0
-Changes steady first mode guard = BeginsWith (IsChange steady first mode guard) change_words
+abbrev pub Changes : Parameters → Mode → Guard → List Word → Type 0
+Changes first mode guard = BeginsWith (IsChange first mode guard) change_words
 
 -- the first setting once more
 abbrev same_change : Bool → Mode → Guard → Parameters → Change
@@ -37,22 +37,21 @@ behind_mode m true t ws rest e = (same_head e, same_tail e)
 behind_mode m false t ws rest e = absurd (no_setting m t.mode t.setting (same_head e))
 
 -- the first setting is accepted
-module _ (steady : Bool) (first : Parameters) (mode : Mode) (guard : Guard) (ok : IsAccepted first) where
-  is_change : (told : Bool) (m : Mode) (g : Guard) → (told ≡ false → (m ≡ mode) × (g ≡ guard)) → (steady ≡ true → (m ≡ mode) × (g ≡ guard))
-      → IsChange steady first mode guard (same_change told m g first)
-  is_change told m g kept stays = record { accepted = ok; layers = (refl, refl); kept = kept; stays = stays }
+module _ (first : Parameters) (mode : Mode) (guard : Guard) (ok : IsAccepted first) where
+  is_change : (told : Bool) (m : Mode) (g : Guard) → (told ≡ false → (m ≡ mode) × (g ≡ guard)) → IsChange first mode guard (same_change told m g first)
+  is_change told m g kept = record { accepted = ok; layers = (refl, refl); kept = kept }
 
-  -- the guard interval behind a mode is none that may stand there
-  pub stuck_at_guard : (m : Mode) (u v : Unread) (p : ℕ) → (steady ≡ true → m ≡ mode) → Reads (mode_word m ∷ []) u v → p ≡ v.place
-      → ((g : Guard) → (steady ≡ true → g ≡ guard) → StartsWith (guard_word g) v.words → ⊥) → IsStuck (Changes steady first mode guard) u p
-  stuck_at_guard m u v p stays reads at never =
-      stuck_here (Changes steady first mode guard) (mode_word m ∷ []) u v p reads at
-      (guard_word guard ∷ setting_word m first ∷ [], (same_change true m guard first, is_change true m guard (λ e. absurd (cc)) (λ s. (stays s, refl)), [], refl))
-      (λ ws c heads. (let b = behind_mode m c.0.told c.0.after ws c.2 c.3 in never c.0.after.guard (λ s. (c.1.stays s).1) (sym heads ∙ ap (take 1) b.1)))
+  -- the guard interval behind a mode is none
+  pub stuck_at_guard : (m : Mode) (u v : Unread) (p : ℕ) → Reads (mode_word m ∷ []) u v → p ≡ v.place → ((g : Guard) → StartsWith (guard_word g) v.words → ⊥)
+      → IsStuck (Changes first mode guard) u p
+  stuck_at_guard m u v p reads at never =
+      stuck_here (Changes first mode guard) (mode_word m ∷ []) u v p reads at
+      (guard_word guard ∷ setting_word m first ∷ [], (same_change true m guard first, is_change true m guard (λ e. absurd (cc)), [], refl))
+      (λ ws c heads. (let b = behind_mode m c.0.told c.0.after ws c.2 c.3 in never c.0.after.guard (sym heads ∙ ap (take 1) b.1)))
 
   -- the setting is none that may stand there
-  pub stuck_at_setting : (m : Mode) (g : Guard) (u v : Unread) (p : ℕ) → ReadsMode steady mode guard m g u v → p ≡ v.place
-      → ((s : Parameters) → IsAccepted s → SameLayers first s → StartsWith (setting_word m s) v.words → ⊥) → IsStuck (Changes steady first mode guard) u p
+  pub stuck_at_setting : (m : Mode) (g : Guard) (u v : Unread) (p : ℕ) → ReadsMode mode guard m g u v → p ≡ v.place
+      → ((s : Parameters) → IsAccepted s → SameLayers first s → StartsWith (setting_word m s) v.words → ⊥) → IsStuck (Changes first mode guard) u p
   stuck_at_setting m g u v p r at never = go r.told r.reads r.kept r.next
     where
       behind_told : (t : Transmission) (told : Bool) (ws rest : List Word) → IsAccepted t.setting → SameLayers first t.setting
@@ -63,23 +62,23 @@ module _ (steady : Bool) (first : Parameters) (mode : Mode) (guard : Guard) (ok 
       behind_told t false ws rest fine same e heads = no_setting m t.mode t.setting (same_head e)
 
       behind_kept : (t : Transmission) (told : Bool) (ws rest : List Word) → IsAccepted t.setting → SameLayers first t.setting → (told ≡ false → IsIn mode guard t)
-          → (steady ≡ true → IsIn mode guard t) → m ≡ mode → ((n : Mode) → (steady ≡ true → n ≡ mode) → StartsWith (mode_word n) v.words → ⊥)
+          → m ≡ mode → ((n : Mode) → StartsWith (mode_word n) v.words → ⊥)
           → ws ≡ (told_words told t.mode t.guard ++ setting_word t.mode t.setting ∷ []) ++ rest → take 1 ws ≡ take 1 v.words → ⊥
-      behind_kept t true ws rest fine same kept stays is next e heads = next t.mode (λ s. (stays s).0) (sym heads ∙ ap (take 1) e)
-      behind_kept t false ws rest fine same kept stays is next e heads =
+      behind_kept t true ws rest fine same kept is next e heads = next t.mode (sym heads ∙ ap (take 1) e)
+      behind_kept t false ws rest fine same kept is next e heads =
           let words : setting_word t.mode t.setting ≡ setting_word m t.setting = ap (λ n. setting_word n t.setting) ((kept refl).0 ∙ sym is) in
           never t.setting fine same (sym heads ∙ ap (take 1) e ∙ ap (λ (w : Word). w ∷ []) words)
 
       go : (told : Bool) → Reads (told_words told m g) u v → (told ≡ false → (m ≡ mode) × (g ≡ guard))
-          → (told ≡ false → (n : Mode) → (steady ≡ true → n ≡ mode) → StartsWith (mode_word n) v.words → ⊥) → IsStuck (Changes steady first mode guard) u p
+          → (told ≡ false → (n : Mode) → StartsWith (mode_word n) v.words → ⊥) → IsStuck (Changes first mode guard) u p
       go true reads kept next =
-          stuck_here (Changes steady first mode guard) (mode_word m ∷ guard_word g ∷ []) u v p reads at
-          (setting_word m first ∷ [], (same_change true m g first, is_change true m g (λ e. absurd (cc)) r.same, [], refl))
+          stuck_here (Changes first mode guard) (mode_word m ∷ guard_word g ∷ []) u v p reads at
+          (setting_word m first ∷ [], (same_change true m g first, is_change true m g (λ e. absurd (cc)), [], refl))
           (λ ws c heads. behind_told c.0.after c.0.told ws c.2 c.1.accepted c.1.layers c.3 heads)
       go false reads kept next =
-          stuck_here (Changes steady first mode guard) [] u v p reads at
-          (setting_word m first ∷ [], (same_change false m g first, is_change false m g kept r.same, [], refl))
-          (λ ws c heads. behind_kept c.0.after c.0.told ws c.2 c.1.accepted c.1.layers c.1.kept c.1.stays (kept refl).0 (next refl) c.3 heads)
+          stuck_here (Changes first mode guard) [] u v p reads at
+          (setting_word m first ∷ [], (same_change false m g first, is_change false m g kept, [], refl))
+          (λ ws c heads. behind_kept c.0.after c.0.told ws c.2 c.1.accepted c.1.layers c.1.kept (kept refl).0 (next refl) c.3 heads)
 
 -- ---- what the plan says
 
@@ -126,36 +125,36 @@ refused_layers p frame s fault room later e same =
 
 -- ---- the place in the switch
 
-pub moved : (steady : Bool) (first : Parameters) (m n : Mode) (g h : Guard) (u : Unread) (place : ℕ) → m ≡ n → g ≡ h → IsStuck (Changes steady first m g) u place
-    → IsStuck (Changes steady first n h) u place
-moved steady first m n g h u place modes guards s = subst (λ x. IsStuck (Changes steady first x h) u place) modes (subst (λ x. IsStuck (Changes steady first m x) u place) guards s)
+pub moved : (first : Parameters) (m n : Mode) (g h : Guard) (u : Unread) (place : ℕ) → m ≡ n → g ≡ h → IsStuck (Changes first m g) u place
+    → IsStuck (Changes first n h) u place
+moved first m n g h u place modes guards s = subst (λ x. IsStuck (Changes first x h) u place) modes (subst (λ x. IsStuck (Changes first m x) u place) guards s)
 
 -- the next word spells a setting, and no other one
 pub other_word : (m : Mode) (s t : Parameters) (u v : Unread) → Reads (setting_word m s ∷ []) u v → IsAccepted s → IsAccepted t → StartsWith (setting_word m t) u.words → s ≡ t
 other_word m s t u v reads oks okt starts = setting_word-injective m s t oks okt (same_head (ap (take 1) (sym reads.split) ∙ starts))
 
 -- the words of a switch, as they were read
-pub record SwitchRead (steady : Bool) (b : At) (frame : ℕ) (t : Transmission) (u x : Unread) : Type 0 where
+pub record SwitchRead (b : At) (frame : ℕ) (t : Transmission) (u x : Unread) : Type 0 where
   pub v : Unread
   pub w : Unread
   pub frame_read : IsLater b.start frame × Reads (frame_word frame ∷ []) u v
-  pub mode_read : ReadsMode steady b.mode b.guard t.mode t.guard v w
+  pub mode_read : ReadsMode b.mode b.guard t.mode t.guard v w
   pub accepted : IsAccepted t.setting
   pub setting_read : Reads (setting_word t.mode t.setting ∷ []) w x
 
-module _ (steady : Bool) (p : Schedule) (b : At) (last : IsLast p b) where
+module _ (p : Schedule) (b : At) (last : IsLast p b) where
   pub in_switch : (frame place : ℕ) (u v : Unread) → IsLater b.start frame × Reads (frame_word frame ∷ []) u v
-      → IsStuck (Changes steady p.first.setting b.mode b.guard) v place → IsStuckInSwitch steady p u place
+      → IsStuck (Changes p.first.setting b.mode b.guard) v place → IsStuckInSwitch p u place
   in_switch frame place u v took s = record {
     frame = frame;
     behind = v;
     later = subst (λ n. IsLater n frame) last.start took.0;
     reads = took.1;
-    stuck = moved steady p.first.setting b.mode (last_sent p).mode b.guard (last_sent p).guard v place last.mode last.guard s;
+    stuck = moved p.first.setting b.mode (last_sent p).mode b.guard (last_sent p).guard v place last.mode last.guard s;
   }
 
-  pub adds_switch : (q : Schedule) (frame : ℕ) (t : Transmission) (u x : Unread) → length p.switches < 7 → SwitchRead steady b frame t u x
-      → (switch_fault p frame t.setting ≡ None) × (q ≡ with_switch p (record { frame = frame; after = t })) → AddsSwitch steady p q u x
+  pub adds_switch : (q : Schedule) (frame : ℕ) (t : Transmission) (u x : Unread) → length p.switches < 7 → SwitchRead b frame t u x
+      → (switch_fault p frame t.setting ≡ None) × (q ≡ with_switch p (record { frame = frame; after = t })) → AddsSwitch p q u x
   adds_switch q frame t u x room r taken =
       let later : IsLater (last_start p) frame = subst (λ n. IsLater n frame) last.start r.frame_read.0 in
       let m = r.mode_read in
@@ -167,7 +166,6 @@ module _ (steady : Bool) (p : Schedule) (b : At) (last : IsLast p b) where
           accepted = r.accepted;
           layers = taken_layers p frame t.setting room later taken.0;
           kept = λ e. (let k = m.kept e in (k.0 ∙ last.mode, k.1 ∙ last.guard));
-          stays = λ e. (let k = m.same e in (k.0 ∙ last.mode, k.1 ∙ last.guard));
         };
         reads = reads_both (frame_word frame ∷ []) (told_words m.told t.mode t.guard ++ setting_word t.mode t.setting ∷ []) u r.v x r.frame_read.1
             (reads_both (told_words m.told t.mode t.guard) (setting_word t.mode t.setting ∷ []) r.v r.w x m.reads r.setting_read);

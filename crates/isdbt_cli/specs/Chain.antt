@@ -1,9 +1,10 @@
 -- The three commands one after another, from the layers' inputs to what is delivered.
-use Rattle.std.specs.Prelude.{◌≡◌, ℕ, ◌+◌, ◌-◌, ◌<◌, ◌≤◌, false, List, None}
+use Rattle.std.specs.Prelude.{◌≡◌, ℕ, ◌+◌, ◌-◌, ◌<◌, ◌≤◌, false, if◌then◌else◌, List, None}
 use Rattle.std.specs.declared.option.Option.{Option}
-use Rattle.isdbt_base.specs.declared.kinds.Mode.{Mode}
-use Rattle.isdbt_base.specs.declared.kinds.Guard.{Guard}
 use Rattle.isdbt_base.specs.declared.kinds.Layer.{Layer}
+use Rattle.isdbt_base.specs.declared.stream.Writing.{Writing}
+use Rattle.isdbt_base.specs.declared.stream.Form.{Form}
+use Rattle.isdbt_base.specs.declared.stream.Form.TheVariants.{V1, V2}
 use Rattle.isdbt_base.specs.Plans.{Schedule}
 use Rattle.isdbt_base.specs.Frames.{FramePackets}
 use Rattle.isdbt_base.specs.Outcome.{product, IsOutcome}
@@ -11,10 +12,10 @@ use Rattle.ts_packet.specs.Packets.{piece}
 use Rattle.edge_io.specs.Known.{append_known}
 use Rattle.remux_core.specs.Multiplex.{placed_before, multiplexed, packet_count, frame_delay, written_frame}
 use Rattle.remux_core.specs.Answers.{IsPlacedIn}
-use Rattle.coder_core.specs.SentCells.{frame_cells}
+use Rattle.coder_core.specs.SentCells.{sent_frame}
 use Rattle.coder_core.specs.InputFrames.{first_head}
 use Rattle.coder_core.specs.CodeRefusals.{code_refusal, is_there, frames_from, coded_frame}
-use Rattle.seg_receiver.specs.CellStream.{View, first_version}
+use Rattle.seg_receiver.specs.CellStream.{View, view_of, writing_of}
 use Rattle.seg_receiver.specs.Received.{received}
 use Rattle.seg_receiver.specs.ReceiveRefusals.{receive_is_there, receive_refusal}
 use Rattle.seg_receiver.specs.Delivered.{ArePackets, IsNear, IsDelivered, delivered}
@@ -38,17 +39,21 @@ pub record IsReceivedAs (v : View) (p : Schedule) (frames : FramePackets) (count
   pub outcome : IsOutcome (receive_refusal v false frame_limit) (receive_is_there v) count None
   pub product : (m : ℕ) → m ≤ count → received v m ≡ delivered p frames m
 
--- the cells of the first so many frames of an input were written, and they are near a plan and the packets that are found in the input, which are packets of bytes
-pub record WroteNear (p : Schedule) (input : List ℕ) (count : ℕ) (before after : Option (List ℕ)) : Type 0 where
-  pub packets : ArePackets p (frames_from p input (first_head input)) count
-  pub near : IsNear (first_version p.first.mode p.first.guard (product (coded_frame p input) count)) p (frames_from p input (first_head input)) count
-  pub written : after ≡ append_known before (product (coded_frame p input) count)
+-- the version of the stream that a coding writes: in version 1 all frames are of the mode and the guard interval of the plan's first
+abbrev pub form_of : Writing → Schedule → Form
+form_of how p = if how.v2 then V2 else V1 p.first.mode p.first.guard
 
--- code finds all frames of what remux writes, and refuses none, also above the last; the cells that it writes are those of the plan and the multiplex of the inputs, and near them; the packets of the multiplex are packets of bytes; and each packet of an input that a frame of the multiplex places is delivered at that place of its layer, as many frames later as the layer's delay
-pub record IsChain (p : Schedule) (input : Layer → List ℕ) (mode : Mode) (guard : Guard) (count : ℕ) : Type 0 where
+-- the cells of the first so many frames of an input were written, and they are near a plan and the packets that are found in the input, which are packets of bytes
+pub record WroteNear (how : Writing) (p : Schedule) (input : List ℕ) (count : ℕ) (before after : Option (List ℕ)) : Type 0 where
+  pub packets : ArePackets p (frames_from p input (first_head input)) count
+  pub near : IsNear (view_of (form_of how p) (product (coded_frame how p input) count)) p (frames_from p input (first_head input)) count
+  pub written : after ≡ append_known before (product (coded_frame how p input) count)
+
+-- code finds all frames of what remux writes, and refuses none, also above the last; what it writes are the heads and the cells of the plan and the multiplex of the inputs, and it is near them; the packets of the multiplex are packets of bytes; and each packet of an input that a frame of the multiplex places is delivered at that place of its layer, as many frames later as the layer's delay
+pub record IsChain (p : Schedule) (input : Layer → List ℕ) (form : Form) (count : ℕ) : Type 0 where
   pub coded : IsOutcome (code_refusal p (written_stream p input count) frame_limit) (is_there p (written_stream p input count)) count None
   pub free : (f : ℕ) → code_refusal p (written_stream p input count) frame_limit f ≡ None
-  pub cells : product (coded_frame p (written_stream p input count)) count ≡ product (frame_cells p (multiplexed p input)) count
-  pub near : IsNear (first_version mode guard (product (coded_frame p (written_stream p input count)) count)) p (multiplexed p input) count
+  pub cells : product (coded_frame (writing_of form) p (written_stream p input count)) count ≡ product (sent_frame (writing_of form) p (multiplexed p input)) count
+  pub near : IsNear (view_of form (product (coded_frame (writing_of form) p (written_stream p input count)) count)) p (multiplexed p input) count
   pub packets : ArePackets p (multiplexed p input) count
   pub places : (x : Layer) (i f : ℕ) → i < packet_count input x → IsPlacedIn p x i f → IsDelivered p (multiplexed p input) x (f + frame_delay p f x) (i - placed_before p x f) (piece 188 (input x) i)

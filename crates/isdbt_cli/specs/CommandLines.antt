@@ -13,6 +13,7 @@ use Rattle.isdbt_base.specs.LayerParameters.{LayerParameters}
 use Rattle.isdbt_base.specs.Parameters.{Parameters}
 use Rattle.isdbt_base.specs.Numbers.{time_depth}
 use Rattle.isdbt_base.specs.Plans.{Transmission, Switch, Schedule, IsPlan, KeepsMode}
+use Rattle.isdbt_base.specs.declared.stream.Writing.{Writing}
 
 -- a word is the bytes of its text
 abbrev pub Word : Type 0
@@ -112,19 +113,27 @@ abbrev pub IsNameIfGiven : Option Word → Type 0
 IsNameIfGiven None = Unit {0}
 IsNameIfGiven (Some name) = IsName name
 
+-- ---- the version of the stream of cells
+
+-- version 2 is told behind the input, and version 1 is not
+abbrev pub version_words : Bool → List Word
+version_words true = codes "v2" ∷ []
+version_words false = []
+
 -- ---- commands
 
--- remux: a plan, and the names of the inputs of layers A, B and C; code: a plan, and the name of its input; receive: a mode and a guard interval, and the name of its input
+-- remux: a plan, and the names of the inputs of layers A, B and C; code: a plan, how the stream is written, and the name of its input; receive: a mode and a guard interval, and the name of its input
 pub data Command : Type 0 where
   remux : Schedule → Word → Option Word → Option Word → Command
-  code : Schedule → Word → Command
+  code : Schedule → Writing → Word → Command
   receive : Mode → Guard → Word → Command
 
 -- these words spell a command
 unfoldable pub SpellCommand : Command → List Word → Type 0
 SpellCommand (remux p a b c) words =
     (plan : List Word) × SpellPlan p plan × (words ≡ codes "remux" ∷ (plan ++ (input_word (codes "A") a ∷ (other_input_words (codes "B") b ++ other_input_words (codes "C") c))))
-SpellCommand (code p name) words = (plan : List Word) × SpellPlan p plan × (words ≡ codes "code" ∷ (plan ++ (input_word (codes "IN") name ∷ [])))
+SpellCommand (code p how name) words =
+    (plan : List Word) × SpellPlan p plan × (words ≡ codes "code" ∷ (plan ++ (input_word (codes "IN") name ∷ version_words how.v2)))
 SpellCommand (receive mode guard name) words = words ≡ codes "receive" ∷ mode_word mode ∷ guard_word guard ∷ input_word (codes "IN") name ∷ []
 
 -- the plan is accepted, and exactly its layers' inputs are named
@@ -136,15 +145,15 @@ pub record IsRemux (p : Schedule) (a : Word) (b c : Option Word) : Type 0 where
   pub b_used : is_some b ≡ is_some p.first.setting.b
   pub c_used : is_some c ≡ is_some p.first.setting.c
 
--- the plan is accepted, its switches keep the mode and the guard interval, and the input is named
-pub record IsCode (p : Schedule) (name : Word) : Type 0 where
+-- the plan is accepted, in version 1 its switches keep the mode and the guard interval, and the input is named
+pub record IsCode (p : Schedule) (how : Writing) (name : Word) : Type 0 where
   pub plan : IsPlan p
-  pub keeps : KeepsMode p.first p.switches
+  pub keeps : how.v2 ≡ false → KeepsMode p.first p.switches
   pub input_name : IsName name
 
 abbrev pub IsCommand : Command → Type 0
 IsCommand (remux p a b c) = IsRemux p a b c
-IsCommand (code p name) = IsCode p name
+IsCommand (code p how name) = IsCode p how name
 IsCommand (receive mode guard name) = IsName name
 
 -- the words are some of an accepted command

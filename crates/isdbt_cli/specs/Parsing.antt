@@ -5,12 +5,12 @@ use Rattle.isdbt_base.specs.declared.kinds.Mode.{Mode}
 use Rattle.isdbt_base.specs.LayerParameters.{LayerParameters}
 use Rattle.isdbt_base.specs.declared.kinds.Guard.{Guard}
 use Rattle.isdbt_base.specs.Parameters.{Parameters, HasSegmentsIfUsed, HasNoGap, IsAccepted}
-use Rattle.isdbt_base.specs.Plans.{Transmission, Switch, Schedule, SameLayers, IsPlan, KeepsMode}
+use Rattle.isdbt_base.specs.Plans.{Transmission, Switch, Schedule, SameLayers, IsPlan}
 use Rattle.isdbt_base.specs.Epochs.{last_start, last_sent}
 use Rattle.isdbt_base.specs.Switching.{with_switch}
 use Rattle.isdbt_cli.specs.declared.command.Command.{Command as Parsed}
 use Rattle.isdbt_cli.specs.declared.command.Command.TheVariants.{Remux, Code, Receive}
-use Rattle.isdbt_cli.specs.CommandLines.{Word, mode_word, setting_word, frame_word, told_words, IsIn, SpellPlan, other_layer_text, Command, remux, code, receive, Spells}
+use Rattle.isdbt_cli.specs.CommandLines.{Word, mode_word, setting_word, frame_word, told_words, IsIn, SpellPlan, other_layer_text, version_words, Command, remux, code, receive, Spells}
 
 -- ---- the parts of a text
 
@@ -72,7 +72,7 @@ Follows first words = (c : Command) × Spells (first ∷ words) c
 -- the command that the program's value stands for
 abbrev pub command_of : Parsed → Command
 command_of (Remux plan a b c) = remux plan a.now (option_map (λ x. x.now) b) (option_map (λ x. x.now) c)
-command_of (Code plan name) = code plan name.now
+command_of (Code plan how name) = code plan how name.now
 command_of (Receive mode guard name) = receive mode guard name.now
 
 -- a named input, if it is given: the seat's text and the name
@@ -86,17 +86,12 @@ named seat (Some name) = (seat ++ name) ∷ []
 abbrev pub StartsWith : Word → List Word → Type 0
 StartsWith word words = take 1 words ≡ word ∷ []
 
--- where the plan must be steady, this is in that mode and with that guard interval
-abbrev pub StaysIf : Bool → Mode → Guard → Transmission → Type 0
-StaysIf steady mode guard t = steady ≡ true → IsIn mode guard t
-
--- the words of a mode and a guard interval were read, or none: then those before stay, and no mode that may follow is next
-pub record ReadsMode (steady : Bool) (mode : Mode) (guard : Guard) (m : Mode) (g : Guard) (old new : Unread) : Type 0 where
+-- the words of a mode and a guard interval were read, or none: then those before stay, and no mode is next
+pub record ReadsMode (mode : Mode) (guard : Guard) (m : Mode) (g : Guard) (old new : Unread) : Type 0 where
   pub told : Bool
   pub reads : Reads (told_words told m g) old new
   pub kept : told ≡ false → (m ≡ mode) × (g ≡ guard)
-  pub next : told ≡ false → (n : Mode) → (steady ≡ true → n ≡ mode) → StartsWith (mode_word n) new.words → ⊥
-  pub same : steady ≡ true → (m ≡ mode) × (g ≡ guard)
+  pub next : told ≡ false → (n : Mode) → StartsWith (mode_word n) new.words → ⊥
 
 -- what stands behind the frame of a switch
 pub record Change : Type 0 where
@@ -107,22 +102,21 @@ abbrev pub change_words : Change → List Word
 change_words c = told_words c.told c.after.mode c.after.guard ++ setting_word c.after.mode c.after.setting ∷ []
 
 -- this may stand there, with the layers of this setting, behind that mode and guard interval
-pub record IsChange (steady : Bool) (first : Parameters) (mode : Mode) (guard : Guard) (c : Change) : Type 0 where
+pub record IsChange (first : Parameters) (mode : Mode) (guard : Guard) (c : Change) : Type 0 where
   pub accepted : IsAccepted c.after.setting
   pub layers : SameLayers first c.after.setting
   pub kept : c.told ≡ false → IsIn mode guard c.after
-  pub stays : StaysIf steady mode guard c.after
 
 -- a frame that may follow a frame
 abbrev pub IsLater : ℕ → ℕ → Type 0
 IsLater last frame = (last < frame) × (frame ≤ 16777215)
 
 -- one more switch was read
-pub record AddsSwitch (steady : Bool) (p q : Schedule) (old new : Unread) : Type 0 where
+pub record AddsSwitch (p q : Schedule) (old new : Unread) : Type 0 where
   pub frame : ℕ
   pub change : Change
   pub later : IsLater (last_start p) frame
-  pub valid : IsChange steady p.first.setting (last_sent p).mode (last_sent p).guard change
+  pub valid : IsChange p.first.setting (last_sent p).mode (last_sent p).guard change
   pub reads : Reads (frame_word frame ∷ change_words change) old new
   pub is : q ≡ with_switch p (record { frame = frame; after = change.after })
 
@@ -132,35 +126,40 @@ pub record EndsPlan (p q : Schedule) (old new : Unread) : Type 0 where
   pub stays : new ≡ old
   pub next : (frame : ℕ) → IsLater (last_start p) frame → StartsWith (frame_word frame) old.words → ⊥
 
-abbrev pub ReadsSwitch : Bool → Bool → Schedule → Schedule → Unread → Unread → Type 0
-ReadsSwitch true steady = AddsSwitch steady
-ReadsSwitch false steady = EndsPlan
+abbrev pub ReadsSwitch : Bool → Schedule → Schedule → Unread → Unread → Type 0
+ReadsSwitch true = AddsSwitch
+ReadsSwitch false = EndsPlan
 
 -- a frame that may follow was read, and behind it the words get stuck
-pub record IsStuckInSwitch (steady : Bool) (p : Schedule) (unread : Unread) (place : ℕ) : Type 0 where
+pub record IsStuckInSwitch (p : Schedule) (unread : Unread) (place : ℕ) : Type 0 where
   pub frame : ℕ
   pub behind : Unread
   pub later : IsLater (last_start p) frame
   pub reads : Reads (frame_word frame ∷ []) unread behind
-  pub stuck : IsStuck (BeginsWith (IsChange steady p.first.setting (last_sent p).mode (last_sent p).guard) change_words) behind place
+  pub stuck : IsStuck (BeginsWith (IsChange p.first.setting (last_sent p).mode (last_sent p).guard) change_words) behind place
 
--- these words spell an accepted plan, which is steady where it must be
-pub record SpellsPlan (steady : Bool) (p : Schedule) (words : List Word) : Type 0 where
+-- these words spell an accepted plan
+pub record SpellsPlan (p : Schedule) (words : List Word) : Type 0 where
   pub plan : IsPlan p
-  pub keeps : steady ≡ true → KeepsMode p.first p.switches
   pub spelled : SpellPlan p words
 
 -- the words of such a plan were read
-pub record ReadsPlan (steady : Bool) (p : Schedule) (old new : Unread) : Type 0 where
+pub record ReadsPlan (p : Schedule) (old new : Unread) : Type 0 where
   pub read : List Word
-  pub spells : SpellsPlan steady p read
+  pub spells : SpellsPlan p read
   pub reads : Reads read old new
 
 -- the next word is no frame at which the plan takes one more switch
 abbrev pub HasNoFrame : Schedule → Unread → Type 0
 HasNoFrame p unread = (w : Switch) → IsPlan (with_switch p w) → StartsWith (frame_word w.frame) unread.words → ⊥
 
--- the first word of the commands with a plan: with any plan, and with a steady one
+-- the first word of the two commands with a plan
 abbrev pub planned : Bool → Word
 planned false = codes "remux"
 planned true = codes "code"
+
+-- ---- the version of the stream
+
+-- these words, the last of a coding, tell the version of the stream: version 2 must be told where it is wanted
+abbrev pub SpellVersion : Bool → List Word → Type 0
+SpellVersion wanted words = (v2 : Bool) × (v2 ≡ false → wanted ≡ false) × (words ≡ version_words v2)

@@ -42,7 +42,7 @@ lone_name name In = Some name
 
 abbrev pub names_of : Command → Names
 names_of (remux p a b c) = layer_names a b c
-names_of (code p name) = lone_name name
+names_of (code p how name) = lone_name name
 names_of (receive mode guard name) = lone_name name
 
 -- the named inputs of the layers hold these bytes, and a layer without a name has none
@@ -97,8 +97,8 @@ EndsSo {F} fault_of unopened answered outcome = ((seat : Seat) × (outcome ≡ F
 abbrev pub AnswerOf : Command → (Word → Option (List ℕ)) → Option (List ℕ) → Option (List ℕ) → (Seat → Option (List ℕ)) → Outcome → Type 0
 AnswerOf (remux p a b c) holds before after left outcome = (input : Layer → List ℕ) → Hold holds (layer_names a b c) input
     → EndsSo run_fault_of (λ seat. after ≡ before) (RemuxAnswer p input frame_limit before after left) outcome
-AnswerOf (code p name) holds before after left outcome = (input : List ℕ) → holds name ≡ Some input
-    → EndsSo run_fault_of_code (λ seat. after ≡ before) (LoneAnswer code_kind (code_command p input frame_limit) before after (left In)) outcome
+AnswerOf (code p how name) holds before after left outcome = (input : List ℕ) → holds name ≡ Some input
+    → EndsSo run_fault_of_code (λ seat. after ≡ before) (LoneAnswer code_kind (code_command how p input frame_limit) before after (left In)) outcome
 AnswerOf (receive mode guard name) holds before after left outcome = (stream : List ℕ) → holds name ≡ Some stream
     → EndsSo run_fault_of_receive (λ seat. after ≡ before) (LoneAnswer receive_kind (receive_command (first_version mode guard stream) false stream frame_limit) before after (left In)) outcome
 
@@ -114,7 +114,7 @@ pub record OpenFailed (name : Names) (shelf shelf' : Cause → ℕ) (sink sink' 
 -- when each answer to a command may come: when its engine's answer may
 abbrev pub CauseOf : Command → (Cause → ℕ) → (Cause → ℕ) → ℕ → ℕ → Outcome → Type 0
 CauseOf (remux p a b c) shelf shelf' sink sink' outcome = EndsSo run_fault_of (OpenFailed (layer_names a b c) shelf shelf' sink sink') (RemuxCause p shelf shelf' sink sink') outcome
-CauseOf (code p name) shelf shelf' sink sink' outcome = EndsSo run_fault_of_code (OpenFailed (lone_name name) shelf shelf' sink sink') (LoneCause code_kind shelf shelf' sink sink') outcome
+CauseOf (code p how name) shelf shelf' sink sink' outcome = EndsSo run_fault_of_code (OpenFailed (lone_name name) shelf shelf' sink sink') (LoneCause code_kind shelf shelf' sink sink') outcome
 CauseOf (receive mode guard name) shelf shelf' sink sink' outcome = EndsSo run_fault_of_receive (OpenFailed (lone_name name) shelf shelf' sink sink') (LoneCause receive_kind shelf shelf' sink sink') outcome
 
 -- the words have a fault, and nothing else happened
@@ -140,7 +140,7 @@ pub record NothingRose (name : Names) (shelf shelf' : Cause → ℕ) (sink sink'
 -- the inputs are told, and no frame of the command is refused
 abbrev pub RefusesNone : Command → (Word → Option (List ℕ)) → Type 0
 RefusesNone (remux p a b c) holds = (input : Layer → List ℕ) × Hold holds (layer_names a b c) input × ((f : ℕ) → refusal p input frame_limit f ≡ None)
-RefusesNone (code p name) holds = (input : List ℕ) × (holds name ≡ Some input) × ((f : ℕ) → code_refusal p input frame_limit f ≡ None)
+RefusesNone (code p how name) holds = (input : List ℕ) × (holds name ≡ Some input) × ((f : ℕ) → code_refusal p input frame_limit f ≡ None)
 RefusesNone (receive mode guard name) holds = (stream : List ℕ) × (holds name ≡ Some stream) × ((f : ℕ) → receive_refusal (first_version mode guard stream) false frame_limit f ≡ None)
 
 -- the answers where no frame is refused and nothing of the outside failed

@@ -20,6 +20,15 @@ struct CodeRow {
     end: End,
 }
 
+/// The same in version 2 of the stream.
+const CODE_V2: &[&str] = &["code", "1", "1/4", SINGLE, "IN=a", "v2"];
+
+/// The head of each of its frames.
+const HEAD: [u8; 8] = [0x49, 0x53, 0x43, 0x32, 0x01, 0x04, 0x00, 0x00];
+
+/// Bytes of a frame with its head.
+const HEADED: usize = 509_396;
+
 /// The end of a run that writes three frames.
 const THREE_FRAMES: End = End {
     status: 0,
@@ -333,4 +342,29 @@ const CHANGED: [CodeRow; 14] = [
 #[test]
 fn faults_of_changed_streams(rt: HostRuntime) -> Result<(), Fail> {
     check_rows(&rt, rt.alloc(), &CHANGED)
+}
+
+/// Checks that a frame of version 2 is the head and behind it the cells of the frame in version 1.
+fn check_headed(rt: &impl Abort, headed: &[u8], cells: &[u8]) {
+    assert_eq!(rt; headed.len(), HEADED);
+    assert_eq!(rt; cells.len(), CELLS);
+    assert!(rt; headed.starts_with(&HEAD));
+    assert!(rt; headed.ends_with(cells));
+}
+
+#[test]
+fn first_cells(rt: HostRuntime) -> Result<(), Fail> {
+    let alloc = rt.alloc();
+    let stream = single_stream(alloc)?;
+    let cells = product_of(alloc, CODE, &stream, &[])?;
+    let headed = product_of(alloc, CODE_V2, &stream, &[])?;
+    assert_eq!(rt; headed.len(), 3 * HEADED);
+    for frame in 0..3usize {
+        let with_head = headed
+            .get(frame * HEADED..(frame + 1) * HEADED)
+            .unwrap_or(&[]);
+        let without = cells.get(frame * CELLS..(frame + 1) * CELLS).unwrap_or(&[]);
+        check_headed(&rt, with_head, without);
+    }
+    Ok(())
 }

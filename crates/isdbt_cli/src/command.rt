@@ -1,6 +1,6 @@
 //! What a command line asks for.
 
-use isdbt_base::{Guard, Mode, Plan};
+use isdbt_base::{Guard, Mode, Plan, Writing};
 
 /// A command, as its words say it.
 #[derive(Debug, Drop)]
@@ -12,9 +12,10 @@ pub enum Command<'a> {
         b: Option<&'a str>,
         c: Option<&'a str>,
     },
-    /// Codes the broadcast packets of the input of this name.
+    /// Codes the broadcast packets of the input of this name into a stream that is written so.
     Code {
         plan: Plan,
+        how: Writing,
         name: &'a str,
     },
     /// Receives the cells of the input of this name, which are of this mode and guard interval.

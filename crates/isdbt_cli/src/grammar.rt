@@ -3,17 +3,17 @@
 //! Where the words do not follow a rule, it answers the place of the fault: the least place such that nothing that
 //! follows the rule begins with the words up to it.
 
-ghost use Rattle.std.specs.Prelude.{◌≡◌, ℕ, ◌<◌, ◌++◌, ◌∷◌, [], length, true, None, is_some, IfSome, IfOk, IfErr, MatchResult, codes, map, string_bytes, option_map};
+ghost use Rattle.std.specs.Prelude.{◌≡◌, ℕ, ◌<◌, ◌++◌, ◌∷◌, [], length, Bool, false, None, is_some, IfSome, IfOk, IfErr, MatchResult, codes, map, string_bytes, option_map};
 ghost use Rattle.isdbt_base.specs.Parameters.{Parameters, IsAccepted};
 ghost use Rattle.isdbt_base.specs.declared.kinds.Mode.{Mode as SomeMode};
-ghost use Rattle.isdbt_cli.specs.CommandLines.{mode_word, guard_word, setting_word, frame_word, transmission_words, IsName, IsNameIfGiven, Spells, IsFaultAt};
-ghost use Rattle.isdbt_cli.specs.Parsing.{Reads, BeginsWith, IsAny, IsStuck, Follows, command_of, named, StartsWith, IsLater, ReadsMode, IsChange, change_words, ReadsSwitch, IsStuckInSwitch, ReadsPlan, HasNoFrame, planned};
+ghost use Rattle.isdbt_cli.specs.CommandLines.{mode_word, guard_word, setting_word, frame_word, transmission_words, version_words, IsName, IsNameIfGiven, Spells, IsFaultAt};
+ghost use Rattle.isdbt_cli.specs.Parsing.{Reads, BeginsWith, IsAny, IsStuck, Follows, command_of, named, StartsWith, IsLater, ReadsMode, IsChange, change_words, ReadsSwitch, IsStuckInSwitch, ReadsPlan, HasNoFrame, planned, SpellVersion};
 
 use crate::command::Command;
 use crate::cursor::Cursor;
 use crate::fields::{LAST_FRAME, frame_of, guard_of, mode_of};
 use crate::setting_word::setting_of;
-use isdbt_base::{At, Guard, Layer, Mode, Plan, Setting};
+use isdbt_base::{At, Guard, Layer, Mode, Plan, Setting, Writing};
 
 /// The most switches of a plan.
 const MOST_SWITCHES: u32 = 7;
@@ -37,7 +37,7 @@ fn remux<'a>(words: &mut Cursor<'a>) -> Result<Command<'a>, u64>
     ensures { MatchResult result (λ c. Spells (codes "remux" ∷ words.old.words) (command_of c))
         (λ place. IsStuck (Follows (codes "remux")) words.old place) }
 {
-    let plan = plan(words, false)?;
+    let plan = plan(words)?;
     let setting = plan.at(0).setting;
     let a = name(words, "A=")?;
     let b = name_if(words, "B=", setting.layer(Layer::B).is_some())?;
@@ -46,15 +46,39 @@ fn remux<'a>(words: &mut Cursor<'a>) -> Result<Command<'a>, u64>
     Ok(Command::Remux { plan, a, b, c })
 }
 
-/// The words behind `code`: a plan whose switches keep the mode and the guard interval, and the name of its input.
+/// The words behind `code`: a plan, the name of its input, and the version of the stream.
 fn code<'a>(words: &mut Cursor<'a>) -> Result<Command<'a>, u64>
     ensures { MatchResult result (λ c. Spells (codes "code" ∷ words.old.words) (command_of c))
         (λ place. IsStuck (Follows (codes "code")) words.old place) }
 {
-    let plan = plan(words, true)?;
+    let plan = plan(words)?;
     let name = name(words, "IN=")?;
-    words.end()?;
-    Ok(Command::Code { plan, name })
+    let how = version(words, plan.changes_mode())?;
+    Ok(Command::Code { plan, how, name })
+}
+
+/// The version of the stream, which ends the words: `v2`, or nothing for version 1, unless version 2 is wanted.
+fn version(words: &mut Cursor<'_>, wanted: bool) -> Result<Writing, u64>
+    ensures wanted { IfOk result (λ how. how.v2 ≡ false → wanted ≡ false) }
+    ensures ok { IfOk result (λ how. words.old.words ≡ version_words how.v2) }
+    ensures err { IfErr result (λ place. IsStuck (SpellVersion wanted) words.old place) }
+{
+    let place = words.place();
+    let Some(word) = words.peek() else {
+        return if wanted {
+            Err(place)
+        } else {
+            Ok(Writing { v2: false })
+        };
+    };
+    match word {
+        "v2" => {
+            words.skip();
+            words.end()?;
+            Ok(Writing { v2: true })
+        }
+        _ => Err(place),
+    }
 }
 
 /// The words behind `receive`: a mode, a guard interval and the name of its input.
@@ -73,16 +97,16 @@ fn receive<'a>(words: &mut Cursor<'a>) -> Result<Command<'a>, u64>
     })
 }
 
-/// A plan, with switches as long as the next word is a frame at which it takes one; another word ends it. A steady plan's
-/// switches keep the mode and the guard interval.
-fn plan(words: &mut Cursor<'_>, steady: bool) -> Result<Plan, u64>
-    ensures ok { IfOk result (λ p. ReadsPlan steady p words.old words.new) }
+/// A plan, with switches as long as the next word is a frame at which it takes one; another word ends it. Behind both
+/// commands with a plan it is read alike.
+fn plan(words: &mut Cursor<'_>) -> Result<Plan, u64>
+    ensures ok { IfOk result (λ p. ReadsPlan p words.old words.new) }
     ensures end { IfOk result (λ p. HasNoFrame p words.new) }
-    ensures err { IfErr result (λ place. IsStuck (Follows (planned steady)) words.old place) }
+    ensures err { IfErr result (λ place. (coded : Bool) → IsStuck (Follows (planned coded)) words.old place) }
 {
     let mut plan = opening(words)?;
     for _ in 0..MOST_SWITCHES {
-        if !switch(words, steady, &mut plan)? {
+        if !switch(words, &mut plan)? {
             return Ok(plan);
         }
     }
@@ -104,17 +128,17 @@ fn opening(words: &mut Cursor<'_>) -> Result<Plan, u64>
 }
 
 /// One more switch of a plan, if the next word is a frame at which it may come. Answers whether it is.
-fn switch(words: &mut Cursor<'_>, steady: bool, plan: &mut Plan) -> Result<bool, u64>
+fn switch(words: &mut Cursor<'_>, plan: &mut Plan) -> Result<bool, u64>
     requires { length plan.old.switches < 7 }
-    ensures ok { IfOk result (λ more. ReadsSwitch more steady plan.old plan.new words.old words.new) }
-    ensures err { IfErr result (λ place. IsStuckInSwitch steady plan.old words.old place) }
+    ensures ok { IfOk result (λ more. ReadsSwitch more plan.old plan.new words.old words.new) }
+    ensures err { IfErr result (λ place. IsStuckInSwitch plan.old words.old place) }
 {
     plan.acceptance_law();
     let before = plan.at(LAST_FRAME);
     let Some(frame) = next_frame(words, before.start) else {
         return Ok(false);
     };
-    let (mode, guard) = mode_and_guard(words, before, steady)?;
+    let (mode, guard) = mode_and_guard(words, before)?;
     let place = words.place();
     let setting = setting(words, mode)?;
     setting.acceptance_law();
@@ -140,31 +164,24 @@ fn next_frame(words: &mut Cursor<'_>, last: u32) -> Option<u32>
 }
 
 /// The mode and the guard interval of a switch, or those before it where they are not told.
-fn mode_and_guard(words: &mut Cursor<'_>, before: At, steady: bool) -> Result<(Mode, Guard), u64>
-    ensures ok { IfOk result (λ x. ReadsMode steady before.mode before.guard x.0 x.1 words.old words.new) }
-    ensures err { (first : Parameters) → IsAccepted first → IfErr result (λ place. IsStuck (BeginsWith (IsChange steady first before.mode before.guard) change_words) words.old place) }
+fn mode_and_guard(words: &mut Cursor<'_>, before: At) -> Result<(Mode, Guard), u64>
+    ensures ok { IfOk result (λ x. ReadsMode before.mode before.guard x.0 x.1 words.old words.new) }
+    ensures err { (first : Parameters) → IsAccepted first → IfErr result (λ place. IsStuck (BeginsWith (IsChange first before.mode before.guard) change_words) words.old place) }
 {
-    let Some(mode) = next_mode(words, before.mode, steady) else {
+    let Some(mode) = next_mode(words) else {
         return Ok((before.mode, before.guard));
     };
-    let place = words.place();
     let guard = guard(words)?;
-    if steady && guard != before.guard {
-        return Err(place);
-    }
     Ok((mode, guard))
 }
 
-/// Takes the next word if it is a mode, and in a steady plan the one before.
-fn next_mode(words: &mut Cursor<'_>, before: Mode, steady: bool) -> Option<Mode>
-    ensures some { IfSome result (λ mode. (steady ≡ true → mode ≡ before) × Reads (mode_word mode ∷ []) words.old words.new) }
+/// Takes the next word if it is a mode.
+fn next_mode(words: &mut Cursor<'_>) -> Option<Mode>
+    ensures some { IfSome result (λ mode. Reads (mode_word mode ∷ []) words.old words.new) }
     ensures kept { result ≡ None → words.new ≡ words.old }
-    ensures none { (mode : SomeMode) → result ≡ None → (steady ≡ true → mode ≡ before) → StartsWith (mode_word mode) words.old.words → ⊥ }
+    ensures none { (mode : SomeMode) → result ≡ None → StartsWith (mode_word mode) words.old.words → ⊥ }
 {
     let mode = mode_of(words.peek()?)?;
-    if steady && mode != before {
-        return None;
-    }
     words.skip();
     Some(mode)
 }

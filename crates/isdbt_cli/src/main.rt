@@ -1,12 +1,13 @@
 //! The program `isdbt`: commands of the ISDB-T transmission chain at the shell.
 //!
 //! - `remux MODE GUARD PLAN A=NAME [B=NAME [C=NAME]]` makes broadcast packets of the layers' transport packets.
-//! - `code MODE GUARD PLAN IN=NAME` makes cells of broadcast packets.
+//! - `code MODE GUARD PLAN IN=NAME [v2]` makes cells of broadcast packets. With `v2` each frame has a head, which says its
+//!   mode and guard interval.
 //! - `receive MODE GUARD IN=NAME` makes broadcast packets of cells, each layer's packets put off by its delay. The setting
-//!   it reads from the TMCC words of the frames.
+//!   it reads from the TMCC words of the frames. It reads frames without heads alone, so far.
 //!
 //! A PLAN is `SETTING {@FRAME [MODE GUARD] SETTING}`: what frame 0 sends, and at most seven switches, each from a frame on. A
-//! switch that names no mode and guard interval keeps those before it, and for `code` each switch keeps them.
+//! switch that names no mode and guard interval keeps those before it. Where one brings others, `code` wants `v2`.
 //!
 //! It writes its product to standard output and ends with the status of its [`fault::Outcome`].
 #![tactic(auto)]

@@ -143,7 +143,7 @@ fn places_of_faults(rt: HostRuntime) -> Result<(), Fail> {
 }
 
 /// Words that begin no `code`.
-const CODE: [WordRow; 16] = [
+const CODE: [WordRow; 22] = [
     WordRow {
         words: &["Code", "3", "1/8", WIDE, "IN=x"],
         place: 0,
@@ -202,6 +202,30 @@ const CODE: [WordRow; 16] = [
     },
     WordRow {
         words: &["code", "3", "1/8", WIDE, "IN=x", ""],
+        place: 5,
+    },
+    WordRow {
+        words: &["code", "3", "1/8", WIDE, "v2"],
+        place: 4,
+    },
+    WordRow {
+        words: &["code", "3", "1/8", WIDE, "v2", "IN=x"],
+        place: 4,
+    },
+    WordRow {
+        words: &["code", "3", "1/8", WIDE, "IN=x", "V2"],
+        place: 5,
+    },
+    WordRow {
+        words: &["code", "3", "1/8", WIDE, "IN=x", "v1"],
+        place: 5,
+    },
+    WordRow {
+        words: &["code", "3", "1/8", WIDE, "IN=x", "v2", "v2"],
+        place: 6,
+    },
+    WordRow {
+        words: &["remux", "3", "1/8", WIDE, "A=x", "v2"],
         place: 5,
     },
     WordRow {

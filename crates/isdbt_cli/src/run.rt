@@ -6,6 +6,8 @@ ghost use Rattle.isdbt_base.specs.declared.kinds.Layer.{Layer as Which};
 ghost use Rattle.isdbt_base.specs.declared.kinds.Mode.{Mode as SomeMode};
 ghost use Rattle.isdbt_base.specs.declared.kinds.Guard.{Guard as SomeGuard};
 ghost use Rattle.isdbt_base.specs.Plans.{Schedule, IsPlan};
+ghost use Rattle.isdbt_base.specs.declared.stream.Form.{Form as SomeForm};
+ghost use Rattle.isdbt_base.specs.declared.stream.Writing.{Writing as SomeWriting};
 ghost use Rattle.isdbt_base.specs.Frames.{FramePackets};
 ghost use Rattle.isdbt_base.specs.Outcome.{product};
 ghost use Rattle.gf_rs.specs.Codewords.{IsBytes};
@@ -15,10 +17,10 @@ ghost use Rattle.edge_io.specs.FrameAnswers.{LoneAnswer, LoneCause};
 ghost use Rattle.remux_core.specs.Multiplex.{multiplexed};
 ghost use Rattle.remux_core.specs.Parts.{IsGood};
 ghost use Rattle.remux_core.specs.Answers.{RemuxAnswer, RemuxCause};
-ghost use Rattle.coder_core.specs.SentCells.{frame_cells};
+ghost use Rattle.coder_core.specs.SentCells.{sent_frame};
 ghost use Rattle.coder_core.specs.Answers.{code_kind, code_command};
-ghost use Rattle.seg_receiver.specs.CellStream.{View as SomeView, first_version, AreInRow};
-ghost use Rattle.seg_receiver.specs.Delivered.{SendsIn, ArePackets, IsNear, delivered};
+ghost use Rattle.seg_receiver.specs.CellStream.{View as SomeView, first_version, view_of, writing_of, AreInRow};
+ghost use Rattle.seg_receiver.specs.Delivered.{CanCarry, ArePackets, IsNear, delivered};
 ghost use Rattle.seg_receiver.specs.ReceiveAnswers.{receive_kind, receive_command};
 ghost use Rattle.isdbt_cli.specs.Chain.{written_stream, IsDoneWith, IsReceivedAs, WroteNear, IsChain};
 ghost use Rattle.isdbt_cli.specs.CommandLines.{Word, Command as SomeCommand, remux, code, receive, IsRemux, IsCode, IsCommand, Spells, IsFaultAt};
@@ -35,7 +37,7 @@ use crate::lines::write_line;
 use crate::words::Words;
 use coder_core::code;
 use edge_io::{Failed, Seat, Shelf, Sink};
-use isdbt_base::{Guard, Mode, Plan};
+use isdbt_base::{Guard, Mode, Plan, Writing};
 use remux_core::remux;
 use seg_receiver::receive;
 use std::alloc::Global;
@@ -77,14 +79,15 @@ fn run_remux<H: Shelf, K: Sink>(
 fn run_code<H: Shelf, K: Sink>(
     alloc: Global,
     plan: &Plan,
+    how: Writing,
     name: &str,
     shelf: &mut H,
     out: &mut K,
 ) -> Outcome
-    requires accepted { IsCode plan.now name.now }
+    requires accepted { IsCode plan.now how name.now }
     requires closed { (seat : Place) → H.is_open shelf.old seat ≡ false }
     ensures answer { (input : List ℕ) → H.holds shelf.old name.now ≡ Some input
-        → EndsSo run_fault_of_code (λ seat. K.written out.new ≡ K.written out.old) (LoneAnswer code_kind (code_command plan.now input frame_limit) (K.written out.old) (K.written out.new) (H.left shelf.new seats.In)) result }
+        → EndsSo run_fault_of_code (λ seat. K.written out.new ≡ K.written out.old) (LoneAnswer code_kind (code_command how plan.now input frame_limit) (K.written out.old) (K.written out.new) (H.left shelf.new seats.In)) result }
     ensures cause { EndsSo run_fault_of_code (OpenFailed (lone_name name.now) (H.faults shelf.old) (H.faults shelf.new) (K.faults out.old) (K.faults out.new))
         (LoneCause code_kind (H.faults shelf.old) (H.faults shelf.new) (K.faults out.old) (K.faults out.new)) result }
     ensures seats { SeatsAfter (lone_name name.now) (H.is_open shelf.new) result }
@@ -95,7 +98,7 @@ fn run_code<H: Shelf, K: Sink>(
         Ok(()) => {}
         Err(Failed) => return Outcome::Fault(RunFault::OpenFault(Seat::In)),
     }
-    match code(alloc, plan, MOST_FRAMES, shelf, out) {
+    match code(alloc, plan, how, MOST_FRAMES, shelf, out) {
         Ok(frames) => Outcome::Done(frames),
         Err(fault) => Outcome::Fault(RunFault::from(fault)),
     }
@@ -146,7 +149,7 @@ fn run_command<H: Shelf, K: Sink>(
 {
     match command {
         Command::Remux { plan, a, b, c } => run_remux(alloc, &plan, a, b, c, shelf, out),
-        Command::Code { plan, name } => run_code(alloc, &plan, name, shelf, out),
+        Command::Code { plan, how, name } => run_code(alloc, &plan, how, name, shelf, out),
         Command::Receive { mode, guard, name } => run_receive(alloc, mode, guard, name, shelf, out),
     }
 }
@@ -193,16 +196,16 @@ pub fn run<H: Shelf, K: Sink, E: Sink>(
         → ((x : Which) → IsGood (input x)) → IsFree result }
 
     // A coding of what a remultiplexing writes of good inputs, and no fault of the outside: the cells of the plan and of the
-    // multiplexed packets, or no memory.
-    ensures code_of_remux { (p : Schedule) (name : Word) (input : Which → List ℕ) (count : ℕ) → Spells words.now (code p name)
+    // multiplexed packets, in version 2 with the heads of the plan's frames, or no memory.
+    ensures code_of_remux { (p : Schedule) (how : SomeWriting) (name : Word) (input : Which → List ℕ) (count : ℕ) → Spells words.now (code p how name)
         → H.holds shelf.old name ≡ Some (written_stream p input count) → ((x : Which) → IsGood (input x)) → ((x : Which) → IsBytes (input x)) → count ≤ frame_limit
         → NothingRose (lone_name name) (H.faults shelf.old) (H.faults shelf.new) (K.faults out.old) (K.faults out.new)
-        → IsDoneWith count (product (frame_cells p (multiplexed p input)) count) (K.written out.old) (K.written out.new) result }
+        → IsDoneWith count (product (sent_frame how p (multiplexed p input)) count) (K.written out.old) (K.written out.new) result }
 
     // A coding that is done has written cells that are near the plan and the packets found in the input, which are packets of
     // bytes.
-    ensures code_near { (p : Schedule) (name : Word) (input : List ℕ) (m : ℕ) → Spells words.now (code p name) → H.holds shelf.old name ≡ Some input → IsBytes input
-        → result ≡ Outcome.Done m → WroteNear p input m (K.written out.old) (K.written out.new) }
+    ensures code_near { (p : Schedule) (how : SomeWriting) (name : Word) (input : List ℕ) (m : ℕ) → Spells words.now (code p how name) → H.holds shelf.old name ≡ Some input → IsBytes input
+        → result ≡ Outcome.Done m → WroteNear how p input m (K.written out.old) (K.written out.new) }
 
     // Cells that are near those of a plan and no fault of the outside: the packets of the plan's frames, each put off by its
     // layer's delay, and no others, or no memory.
@@ -216,15 +219,15 @@ pub fn run<H: Shelf, K: Sink, E: Sink>(
     ensures near_received { (v : SomeView) (p : Schedule) (frames : FramePackets) (count : ℕ) → IsPlan p → AreInRow v count → ArePackets p frames count → IsNear v p frames count
         → count ≤ frame_limit → IsReceivedAs v p frames count }
 
-    // The cells of a plan, as a coding writes them, are near it.
-    ensures near_cells { (p : Schedule) (frames : FramePackets) (count : ℕ) (mode : SomeMode) (guard : SomeGuard) → IsPlan p → SendsIn mode guard p count → ArePackets p frames count
-        → IsNear (first_version mode guard (product (frame_cells p frames) count)) p frames count }
+    // The cells of a plan, as a coding writes them in a version of the stream that can carry it, are near it.
+    ensures near_cells { (p : Schedule) (frames : FramePackets) (count : ℕ) (form : SomeForm) → IsPlan p → CanCarry form p count → ArePackets p frames count
+        → IsNear (view_of form (product (sent_frame (writing_of form) p frames) count)) p frames count }
 
     // And the commands go one behind another, for inputs of whole packets with their sync bytes: a coding refuses nothing of
     // what a remultiplexing writes of them, the cells that it writes are near the plan and the multiplexed packets, so that a
     // receiving delivers these, and each input packet that a frame places is delivered later by its layer's delay.
-    ensures chain { (p : Schedule) (mode : SomeMode) (guard : SomeGuard) (input : Which → List ℕ) (count : ℕ) → IsPlan p → SendsIn mode guard p count
-        → ((x : Which) → IsGood (input x)) → ((x : Which) → IsBytes (input x)) → count ≤ frame_limit → IsChain p input mode guard count }
+    ensures chain { (p : Schedule) (form : SomeForm) (input : Which → List ℕ) (count : ℕ) → IsPlan p → CanCarry form p count
+        → ((x : Which) → IsGood (input x)) → ((x : Which) → IsBytes (input x)) → count ≤ frame_limit → IsChain p input form count }
 
     // The rooms of both sinks stay.
     ensures out_room { K.room out.new ≡ K.room out.old }

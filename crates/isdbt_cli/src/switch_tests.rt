@@ -1,7 +1,7 @@
-//! Whole runs of `remux` with plans that have switches.
+//! Whole runs of `remux` and `code` with plans that have switches.
 
 use crate::fault::Outcome;
-use crate::testing::{WELL, marked_packets, run_over};
+use crate::testing::{WELL, marked_packets, product_of, run_over};
 use std::alloc::Global;
 use std::process::Abort;
 use std::test::Fail;
@@ -83,6 +83,43 @@ const RUNS: [SwitchedRun; 3] = [
 fn switches(rt: HostRuntime) -> Result<(), Fail> {
     for row in &RUNS {
         check_run(&rt, rt.alloc(), row)?;
+    }
+    Ok(())
+}
+
+/// A coding of what the second of these runs writes, in version 2.
+const CODE_OVER_MODES: &[&str] = &[
+    "code",
+    "1",
+    "1/4",
+    "A:13:qpsk:1/2:0",
+    "@4",
+    "2",
+    "1/8",
+    "A:13:qpsk:1/2:0",
+    "IN=a",
+    "v2",
+];
+
+/// Bytes at which frames begin, and the mode and the guard interval in their heads: four frames of mode 1, and three of mode 2
+/// behind them.
+const HEADS: [(usize, u8, u8); 4] = [
+    (0, 0x01, 0x04),
+    (3 * 509_396, 0x01, 0x04),
+    (4 * 509_396, 0x02, 0x08),
+    (4 * 509_396 + 2 * 1_018_580, 0x02, 0x08),
+];
+
+#[test]
+fn mode_changes_at_a_switch(rt: HostRuntime) -> Result<(), Fail> {
+    let alloc = rt.alloc();
+    let a = marked_packets(alloc, 400 * 188, 0xAA)?;
+    let stream = product_of(alloc, RUNS[1].words, &a, &[])?;
+    let cells = product_of(alloc, CODE_OVER_MODES, &stream, &[])?;
+    assert_eq!(rt; cells.len(), 5_093_324);
+    for (start, mode, guard) in HEADS {
+        let frame = cells.get(start..).unwrap_or(&[]);
+        assert!(rt; frame.starts_with(&[0x49, 0x53, 0x43, 0x32, mode, guard, 0x00, 0x00]));
     }
     Ok(())
 }

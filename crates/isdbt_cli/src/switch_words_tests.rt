@@ -263,26 +263,28 @@ const CODE: &str = "code 2 1/8 A:13:qpsk:1/2:0";
 const CODE_SEVEN: &str =
     "code 2 1/8 A:13:qpsk:1/2:0 @1 A:13:qpsk:1/2:0 @2 A:13:qpsk:1/2:0 @3 A:13:qpsk:1/2:0 @4 A:13:qpsk:1/2:0 @5 A:13:qpsk:1/2:0 @6 A:13:qpsk:1/2:0 @7 A:13:qpsk:1/2:0";
 
-/// Switches of `code`, which keep its mode and its guard interval.
-const CODE_ROWS: [SwitchRow; 8] = [
+/// Switches of `code`. Where one changes the mode or the guard interval, the line must end with `v2`.
+const CODE_ROWS: [SwitchRow; 11] = [
     SwitchRow {
         front: CODE,
-        behind: &["@0 A:13:qpsk:1/2:0 IN=x", "@16777216 A:13:qpsk:1/2:0 IN=x"],
+        behind: &[
+            "@0 A:13:qpsk:1/2:0 IN=x",
+            "@16777216 A:13:qpsk:1/2:0 IN=x",
+            "v2 IN=x",
+        ],
         place: 4,
     },
     SwitchRow {
         front: CODE,
         behind: &[
             "@20",
-            "@20 1 1/8 A:13:qpsk:1/2:0 IN=x",
-            "@20 3 1/8 A:13:qpsk:1/2:0 IN=x",
-            "@20 4 1/8 A:13:qpsk:1/2:0 IN=x",
-            "@20 1",
+            "@20 4 1/8 A:13:qpsk:1/2:0 IN=x v2",
             "@20 1/8 A:13:qpsk:1/2:0 IN=x",
             "@20 1/4 A:13:qpsk:1/2:0 IN=x",
             "@20 A:13:qpsk:1/2:16 IN=x",
             "@20 A:13:qpsk:1/2:1 IN=x",
             "@20 A:1:qpsk:1/2:0,B:12:qpsk:1/2:0 IN=x",
+            "@20 v2 A:13:qpsk:1/2:0 IN=x",
         ],
         place: 5,
     },
@@ -292,13 +294,12 @@ const CODE_ROWS: [SwitchRow; 8] = [
             "@20 A:13:qpsk:1/2:0",
             "@20 A:13:qpsk:1/2:0 A=x",
             "@20 A:13:qpsk:1/2:0 IN=",
+            "@20 A:13:qpsk:1/2:0 v2 IN=x",
             "@20 A:13:qpsk:1/2:0 @20 A:13:qpsk:1/2:0 IN=x",
-            "@20 2 1/4 A:13:qpsk:1/2:0 IN=x",
-            "@20 2 1/16 A:13:qpsk:1/2:0 IN=x",
-            "@20 2 1/4",
+            "@20 1",
+            "@20 2",
             "@20 2 1/9 A:13:qpsk:1/2:0 IN=x",
             "@20 2 A:13:qpsk:1/2:0 IN=x",
-            "@20 2",
         ],
         place: 6,
     },
@@ -306,31 +307,66 @@ const CODE_ROWS: [SwitchRow; 8] = [
         front: CODE,
         behind: &[
             "@20 A:13:qpsk:1/2:0 IN=x IN=x",
+            "@20 A:13:qpsk:1/2:0 IN=x V2",
             "@20 2 1/8",
+            "@20 2 1/4",
             "@20 2 1/8 A:13:qpsk:1/2:16 IN=x",
-            "@20 A:13:qpsk:1/2:0 @30 1 1/8 A:13:qpsk:1/2:0 IN=x",
+            "@20 1 1/8 A:13:qpsk:1/2:1 IN=x v2",
         ],
         place: 7,
     },
     SwitchRow {
         front: CODE,
-        behind: &["@20 A:13:qpsk:1/2:0 @30 2 1/4 A:13:qpsk:1/2:0 IN=x"],
+        behind: &[
+            "@20 A:13:qpsk:1/2:0 IN=x v2 v2",
+            "@20 1 1/8 A:13:qpsk:1/2:0",
+            "@20 1 1/8 A:13:qpsk:1/2:0 v2 IN=x",
+        ],
         place: 8,
     },
     SwitchRow {
         front: CODE,
-        behind: &["@20 2 1/8 A:13:qpsk:1/2:0 IN=x @30"],
+        behind: &[
+            "@20 1 1/8 A:13:qpsk:1/2:0 IN=x",
+            "@20 3 1/8 A:13:qpsk:1/2:0 IN=x",
+            "@20 2 1/4 A:13:qpsk:1/2:0 IN=x",
+            "@20 2 1/16 A:13:qpsk:1/2:0 IN=x",
+            "@20 2 1/4 A:13:qpsk:1/2:0 IN=x V2",
+            "@20 2 1/4 A:13:qpsk:1/2:0 IN=x v1",
+            "@20 2 1/8 A:13:qpsk:1/2:0 IN=x @30",
+        ],
         place: 9,
     },
     SwitchRow {
         front: CODE,
-        behind: &["@20 2 1/8 A:13:qpsk:1/2:0 @30 2 1/16 A:13:qpsk:1/2:0 IN=x"],
+        behind: &["@20 2 1/4 A:13:qpsk:1/2:0 IN=x v2 v2"],
         place: 10,
+    },
+    SwitchRow {
+        front: CODE,
+        behind: &[
+            "@20 A:13:qpsk:1/2:0 @30 1 1/8 A:13:qpsk:1/2:0 IN=x",
+            "@20 A:13:qpsk:1/2:0 @30 2 1/4 A:13:qpsk:1/2:0 IN=x",
+        ],
+        place: 11,
+    },
+    SwitchRow {
+        front: CODE,
+        behind: &[
+            "@20 2 1/8 A:13:qpsk:1/2:0 @30 2 1/16 A:13:qpsk:1/2:0 IN=x",
+            "@20 1 1/4 A:13:qpsk:1/2:0 @30 2 1/8 A:13:qpsk:1/2:0 IN=x",
+        ],
+        place: 13,
     },
     SwitchRow {
         front: CODE_SEVEN,
         behind: &["@8 A:13:qpsk:1/2:0 IN=x"],
         place: 18,
+    },
+    SwitchRow {
+        front: "code 1 1/4 A:13:qpsk:1/2:0 @3 2 1/8 A:13:qpsk:1/2:0",
+        behind: &["IN=x", "IN=x v1"],
+        place: 9,
     },
 ];
 

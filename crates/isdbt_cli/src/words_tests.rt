@@ -198,11 +198,45 @@ const CODINGS: [CommandRow; 2] = [
 fn coding(rt: HostRuntime) -> Result<(), Fail> {
     for row in &CODINGS {
         let words = words_of(rt.alloc(), row.words)?;
-        let Command::Code { plan, name } = words.command()? else {
+        let Command::Code { plan, name, .. } = words.command()? else {
             return Err(Fail::from("the words are another command"));
         };
         check_plan(&rt, &plan, row)?;
         assert!(rt; name == row.names[0]);
+    }
+    Ok(())
+}
+
+/// Lines of codings, and whether their streams are of version 2.
+const VERSIONS: [(&str, bool); 6] = [
+    ("code 3 1/8 A:13:qpsk:1/2:0 IN=x", false),
+    ("code 3 1/8 A:13:qpsk:1/2:0 IN=x v2", true),
+    (
+        "code 1 1/4 A:13:qpsk:1/2:0 @3 1 1/4 A:13:qpsk:1/2:16 IN=v2",
+        false,
+    ),
+    (
+        "code 1 1/4 A:13:qpsk:1/2:0 @3 1 1/4 A:13:qpsk:1/2:16 IN=v2 v2",
+        true,
+    ),
+    (
+        "code 1 1/4 A:13:qpsk:1/2:0 @3 1 1/8 A:13:qpsk:1/2:0 IN=x v2",
+        true,
+    ),
+    (
+        "code 1 1/4 A:13:qpsk:1/2:0 @3 2 1/4 A:13:qpsk:1/2:0 @4 1 1/4 A:13:qpsk:1/2:0 IN=x v2",
+        true,
+    ),
+];
+
+#[test]
+fn versions(rt: HostRuntime) -> Result<(), Fail> {
+    for (line, v2) in VERSIONS {
+        let words = words_in(rt.alloc(), &[line])?;
+        let Command::Code { how, .. } = words.command()? else {
+            return Err(Fail::from("the words are another command"));
+        };
+        assert_eq!(rt; how.v2, v2);
     }
     Ok(())
 }
@@ -264,7 +298,7 @@ const BEFORE: SwitchedRow = SwitchedRow {
 };
 
 /// Lines with switches.
-const SWITCHED: [SwitchedRow; 13] = [
+const SWITCHED: [SwitchedRow; 14] = [
     BEFORE,
     SwitchedRow {
         frame: 20,
@@ -328,6 +362,14 @@ const SWITCHED: [SwitchedRow; 13] = [
         line: "code 2 1/8 A:13:qpsk:1/2:0 @20 2 1/8 A:13:qpsk:1/2:8 @30 A:13:qpsk:1/2:2 IN=x",
         frame: 30,
         start: 30,
+        mode: Mode::M2,
+        guard: Guard::G8,
+        ..BEFORE
+    },
+    SwitchedRow {
+        line: "code 1 1/4 A:13:qpsk:1/2:0 @3 2 1/8 A:13:qpsk:1/2:0 IN=x v2",
+        frame: 3,
+        start: 3,
         mode: Mode::M2,
         guard: Guard::G8,
         ..BEFORE

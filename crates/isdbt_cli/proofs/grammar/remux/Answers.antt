@@ -1,4 +1,4 @@
-use Rattle.std.proofs.Common.{◌≡◌, ◌++◌, ap, ◌∙◌}
+use Rattle.std.proofs.Common.{◌≡◌, false, ◌++◌, ap, ◌∙◌}
 use Rattle.std.specs.Prelude.{codes, is_some, option_map}
 use Rattle.std.proofs.lemmas.Result.{err_from_is_err_and}
 use Rattle.std.proofs.lemmas.List.{append-nil}
@@ -12,7 +12,7 @@ use Rattle.isdbt_cli.proofs.grammar.remux.Goals as goal
 pub returns-in_err-plan : goal.returns-in_err-plan
 returns-in_err-plan c =
     let p = err_from_is_err_and c.from_residual.result c.from_residual.ensures.1 in
-    rw (p.1, p.2) c.in_err-plan.ensures.err
+    rw (p.1, p.2) (c.in_err-plan.ensures.err false)
 
 pub returns-in_err-a : goal.returns-in_err-a
 returns-in_err-a c =

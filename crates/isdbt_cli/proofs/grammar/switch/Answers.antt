@@ -22,7 +22,7 @@ pub returns-in_err-mode-clause-err : goal.returns-in_err-mode-clause-err
 returns-in_err-mode-clause-err c =
     let p = err_from_is_err_and c.from_residual.result c.from_residual.ensures.1 in
     let last = is_last c.args.plan.now c.at-before.result c.acceptance_law.ensures c.at-before.ensures.value in
-    rw (p.1, p.2) (in_switch c.args.steady c.args.plan.now c.at-before.result last c.in-Some.frame c.in_err-mode.field-0.0 c.args.words.now c.next_frame.new.words c.in-Some.ensures.some
+    rw (p.1, p.2) (in_switch c.args.plan.now c.at-before.result last c.in-Some.frame c.in_err-mode.field-0.0 c.args.words.now c.next_frame.new.words c.in-Some.ensures.some
     (c.in_err-mode.ensures.err c.args.plan.now.first.setting c.acceptance_law.ensures.first))
 
 pub returns-in_err-setting-clause-err : goal.returns-in_err-setting-clause-err
@@ -30,8 +30,8 @@ returns-in_err-setting-clause-err c =
     let p = err_from_is_err_and c.from_residual-in_err-setting.result c.from_residual-in_err-setting.ensures.1 in
     let last = is_last c.args.plan.now c.at-before.result c.acceptance_law.ensures c.at-before.ensures.value in
     let m = misses IsAccepted (setting_word c.in_ok-mode.mode) c.mode_and_guard.new.words c.in_err-setting.field-0.0 c.in_err-setting.ensures.err in
-    rw (p.1, p.2) (in_switch c.args.steady c.args.plan.now c.at-before.result last c.in-Some.frame c.in_err-setting.field-0.0 c.args.words.now c.next_frame.new.words c.in-Some.ensures.some
-    (stuck_at_setting c.args.steady c.args.plan.now.first.setting c.at-before.result.mode c.at-before.result.guard c.acceptance_law.ensures.first c.in_ok-mode.mode
+    rw (p.1, p.2) (in_switch c.args.plan.now c.at-before.result last c.in-Some.frame c.in_err-setting.field-0.0 c.args.words.now c.next_frame.new.words c.in-Some.ensures.some
+    (stuck_at_setting c.args.plan.now.first.setting c.at-before.result.mode c.at-before.result.guard c.acceptance_law.ensures.first c.in_ok-mode.mode
     c.in_ok-mode.guard c.next_frame.new.words c.mode_and_guard.new.words c.in_err-setting.field-0.0
     c.in_ok-mode.ensures.ok m.0 (λ s fine same starts. m.1 s fine starts)))
 
@@ -39,7 +39,7 @@ pub returns-in-Ok-clause-ok : goal.returns-in-Ok-clause-ok
 returns-in-Ok-clause-ok c =
     let last = is_last c.args.plan.now c.at-before.result c.acceptance_law.ensures c.at-before.ensures.value in
     let t : Transmission = record { mode = c.in_ok-mode.mode; guard = c.in_ok-mode.guard; setting = c.in_ok-setting.setting } in
-    let read : SwitchRead c.args.steady c.at-before.result c.in-Some.frame t c.args.words.now c.setting.new.words = record {
+    let read : SwitchRead c.at-before.result c.in-Some.frame t c.args.words.now c.setting.new.words = record {
       v = c.next_frame.new.words;
       w = c.mode_and_guard.new.words;
       frame_read = c.in-Some.ensures.some;
@@ -47,14 +47,14 @@ returns-in-Ok-clause-ok c =
       accepted = c.acceptance_law-2.ensures;
       setting_read = c.in_ok-setting.ensures.ok;
     } in
-    adds_switch c.args.steady c.args.plan.now c.at-before.result last c.add_switch_at.new.self c.in-Some.frame t c.args.words.now c.setting.new.words c.requires read c.in-Ok.ensures
+    adds_switch c.args.plan.now c.at-before.result last c.add_switch_at.new.self c.in-Some.frame t c.args.words.now c.setting.new.words c.requires read c.in-Ok.ensures
 
 pub returns-in-Err-clause-err : goal.returns-in-Err-clause-err
 returns-in-Err-clause-err c =
     let last = is_last c.args.plan.now c.at-before.result c.acceptance_law.ensures c.at-before.ensures.value in
     let later = subst (λ n. IsLater n c.in-Some.frame) last.start c.in-Some.ensures.some.0 in
-    in_switch c.args.steady c.args.plan.now c.at-before.result last c.in-Some.frame c.place-place.result c.args.words.now c.next_frame.new.words c.in-Some.ensures.some
-    (stuck_at_setting c.args.steady c.args.plan.now.first.setting c.at-before.result.mode c.at-before.result.guard c.acceptance_law.ensures.first c.in_ok-mode.mode
+    in_switch c.args.plan.now c.at-before.result last c.in-Some.frame c.place-place.result c.args.words.now c.next_frame.new.words c.in-Some.ensures.some
+    (stuck_at_setting c.args.plan.now.first.setting c.at-before.result.mode c.at-before.result.guard c.acceptance_law.ensures.first c.in_ok-mode.mode
     c.in_ok-mode.guard c.next_frame.new.words c.mode_and_guard.new.words c.place-place.result
     c.in_ok-mode.ensures.ok c.place-place.ensures
     (λ s fine same starts. refused_layers c.args.plan.now c.in-Some.frame c.in_ok-setting.setting c.in-Err.field-0 c.requires later c.in-Err.ensures.0

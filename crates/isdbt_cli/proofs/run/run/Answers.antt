@@ -1,17 +1,20 @@
 use Rattle.std.proofs.Common.{◌≤◌, arith}
 use Rattle.isdbt_base.specs.Outcome.{product}
 use Rattle.edge_io.specs.declared.shelf.Seat.TheVariants as seats
-use Rattle.coder_core.specs.SentCells.{frame_cells}
+use Rattle.coder_core.specs.SentCells.{sent_frame}
 use Rattle.remux_core.specs.Multiplex.{multiplexed}
+use Rattle.isdbt_base.specs.declared.stream.Form.TheVariants.{V1}
+use Rattle.seg_receiver.proofs.AcceptedStream.{accepted-written}
 use Rattle.seg_receiver.specs.CellStream.{first_version}
 use Rattle.seg_receiver.specs.Delivered.{delivered}
-use Rattle.seg_receiver.proofs.StreamLaws.{in_row}
+use Rattle.seg_receiver.proofs.PlanViews.{in_row}
 use Rattle.isdbt_cli.specs.Chain.{written_stream}
 use Rattle.isdbt_cli.specs.CommandLines.{remux, code, receive}
+use Rattle.isdbt_cli.specs.FrameLimit.{frame_limit}
 use Rattle.isdbt_cli.specs.Parsing.{command_of}
 use Rattle.isdbt_cli.proofs.OnePlace.{no_place, one_command}
 use Rattle.isdbt_cli.proofs.RunOutcomes.{ok_usage, fault_usage, same_answer, same_cause, same_seats, complete, good, coded, given, coded_done}
-use Rattle.isdbt_cli.proofs.Chains.{near_received, near_cells, chain, sends_alike, wrote_near}
+use Rattle.isdbt_cli.proofs.Chains.{near_received, near_cells, chain, coded_multiplex, wrote_near}
 use Rattle.isdbt_cli.proofs.run.run.Goals as goal
 
 pub returns-in-Ok-clause-usage : goal.returns-in-Ok-clause-usage
@@ -37,22 +40,27 @@ returns-in-Ok-clause-good_packets g c = λ p a b n input spelled hold none fine.
     good (g.H.Shelf.holds c.args.shelf.now) _ _ _ _ _ _ _ c.run_command-outcome.result p a b n input spelled.command (same_answer (command_of c.in-Ok.command) (remux p a b n) _ _ _ _ _ same c.run_command-outcome.ensures.answer input hold) (same_cause (command_of c.in-Ok.command) (remux p a b n) _ _ _ _ _ same c.run_command-outcome.ensures.cause) none fine
 
 pub returns-in-Ok-clause-code_of_remux : goal.returns-in-Ok-clause-code_of_remux
-returns-in-Ok-clause-code_of_remux g c = λ p name input count spelled hold fine bytes few none.
-    let same = one_command c.args.words.now (command_of c.in-Ok.command) (code p name) c.in-Ok.ensures spelled in
-    let r = spelled.command in
-    let all = chain p p.first.mode p.first.guard input count r.plan (sends_alike p count r.keeps) fine bytes few in
-    coded (g.H.Shelf.holds c.args.shelf.now) _ _ (g.H.Shelf.left c.run_command-outcome.new.shelf) _ _ _ _ c.run_command-outcome.result p name (written_stream p input count) count (product (frame_cells p (multiplexed p input)) count) (same_answer (command_of c.in-Ok.command) (code p name) _ _ _ _ _ same c.run_command-outcome.ensures.answer (written_stream p input count) hold) (same_cause (command_of c.in-Ok.command) (code p name) _ _ _ _ _ same c.run_command-outcome.ensures.cause) none all.coded all.cells
+returns-in-Ok-clause-code_of_remux g c = λ p how name input count spelled hold fine bytes few none.
+    let same = one_command c.args.words.now (command_of c.in-Ok.command) (code p how name) c.in-Ok.ensures spelled in
+    let plan = spelled.command.plan in
+    let stream = written_stream p input count in
+    coded (g.H.Shelf.holds c.args.shelf.now) _ _ (g.H.Shelf.left c.run_command-outcome.new.shelf) _ _ _ _ c.run_command-outcome.result how p name stream count (product (sent_frame how p (multiplexed p input)) count)
+    (same_answer (command_of c.in-Ok.command) (code p how name) _ _ _ _ _ same c.run_command-outcome.ensures.answer stream hold)
+    (same_cause (command_of c.in-Ok.command) (code p how name) _ _ _ _ _ same c.run_command-outcome.ensures.cause) none
+    (accepted-written p input count frame_limit plan fine bytes few) (coded_multiplex how p input count plan fine bytes)
 
 pub returns-in-Ok-clause-code_near : goal.returns-in-Ok-clause-code_near
-returns-in-Ok-clause-code_near g c = λ p name input m spelled hold bytes done.
-    let same = one_command c.args.words.now (command_of c.in-Ok.command) (code p name) c.in-Ok.ensures spelled in
+returns-in-Ok-clause-code_near g c = λ p how name input m spelled hold bytes done.
+    let same = one_command c.args.words.now (command_of c.in-Ok.command) (code p how name) c.in-Ok.ensures spelled in
     let r = spelled.command in
-    wrote_near p input m _ _ ((g.H.Shelf.left c.run_command-outcome.new.shelf) seats.In) r.plan r.keeps bytes (coded_done (g.H.Shelf.holds c.args.shelf.now) _ _ (g.H.Shelf.left c.run_command-outcome.new.shelf) (g.H.Shelf.faults c.args.shelf.now) (g.H.Shelf.faults c.args.shelf.now) 0 0 c.run_command-outcome.result p input m (same_answer (command_of c.in-Ok.command) (code p name) _ _ _ _ _ same c.run_command-outcome.ensures.answer input hold) done)
+    wrote_near how p input m _ _ ((g.H.Shelf.left c.run_command-outcome.new.shelf) seats.In) r.plan r.keeps bytes
+    (coded_done (g.H.Shelf.holds c.args.shelf.now) _ _ (g.H.Shelf.left c.run_command-outcome.new.shelf) (g.H.Shelf.faults c.args.shelf.now) (g.H.Shelf.faults c.args.shelf.now) 0 0 c.run_command-outcome.result how p input m
+    (same_answer (command_of c.in-Ok.command) (code p how name) _ _ _ _ _ same c.run_command-outcome.ensures.answer input hold) done)
 
 pub returns-in-Ok-clause-receive_near : goal.returns-in-Ok-clause-receive_near
 returns-in-Ok-clause-receive_near g c = λ p frames count mode guard name stream spelled hold plan packets near few none.
     let same = one_command c.args.words.now (command_of c.in-Ok.command) (receive mode guard name) c.in-Ok.ensures spelled in
-    let all = near_received (first_version mode guard stream) p frames count plan (in_row mode guard stream count) packets near few in
+    let all = near_received (first_version mode guard stream) p frames count plan (in_row (V1 mode guard) stream count near.whole) packets near few in
     let whole : count ≤ count = omega arith in
     given (g.H.Shelf.holds c.args.shelf.now) _ _ (g.H.Shelf.left c.run_command-outcome.new.shelf) _ _ _ _ c.run_command-outcome.result mode guard name stream count (delivered p frames count) (same_answer (command_of c.in-Ok.command) (receive mode guard name) _ _ _ _ _ same c.run_command-outcome.ensures.answer stream hold) (same_cause (command_of c.in-Ok.command) (receive mode guard name) _ _ _ _ _ same c.run_command-outcome.ensures.cause) none all.outcome (all.product count whole)
 
@@ -84,10 +92,10 @@ pub returns-in-Err-clause-good_packets : goal.returns-in-Err-clause-good_packets
 returns-in-Err-clause-good_packets g c = λ p a b n input spelled hold none fine. absurd (no_place _ (remux p a b n) _ spelled c.in-Err.ensures)
 
 pub returns-in-Err-clause-code_of_remux : goal.returns-in-Err-clause-code_of_remux
-returns-in-Err-clause-code_of_remux g c = λ p name input count spelled hold fine bytes few none. absurd (no_place _ (code p name) _ spelled c.in-Err.ensures)
+returns-in-Err-clause-code_of_remux g c = λ p how name input count spelled hold fine bytes few none. absurd (no_place _ (code p how name) _ spelled c.in-Err.ensures)
 
 pub returns-in-Err-clause-code_near : goal.returns-in-Err-clause-code_near
-returns-in-Err-clause-code_near g c = λ p name input m spelled hold bytes done. absurd (no_place _ (code p name) _ spelled c.in-Err.ensures)
+returns-in-Err-clause-code_near g c = λ p how name input m spelled hold bytes done. absurd (no_place _ (code p how name) _ spelled c.in-Err.ensures)
 
 pub returns-in-Err-clause-receive_near : goal.returns-in-Err-clause-receive_near
 returns-in-Err-clause-receive_near g c = λ p frames count mode guard name stream spelled hold plan packets near few none. absurd (no_place _ (receive mode guard name) _ spelled c.in-Err.ensures)
