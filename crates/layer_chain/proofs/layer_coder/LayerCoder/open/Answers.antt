@@ -16,9 +16,12 @@ products : {a b x y : ℕ} → a ≡ x → b ≡ y → a * b ≡ x * y
 products p q = rw (p, q) refl
 
 -- new lines stand for nothing of any stream
-opened_bits : (s : BitPaths) (v cells : ℕ) (stream : ℕ → ℕ) (w width : ℕ) → width ≡ v → w ≡ cells → bit.StandsFor (bit.path_delay width w) (bit.lines_of s) [] → {n : ℕ} → n ≡ 0
+opened_bits : (s : BitPaths) (v cells : ℕ) (stream : ℕ → ℕ) (w width n : ℕ) → width ≡ v → w ≡ cells → bit.StandsFor (bit.path_delay width w) (bit.lines_of s) [] → n ≡ 0
     → bit.StandsFor (bit.path_delay v cells) (bit.lines_of s) (first_of stream n)
-opened_bits s v cells stream w width is same stands {n} none = rw (first_of-none stream n none) (subst (λ k. bit.StandsFor (bit.path_delay v k) (bit.lines_of s) []) same (subst (λ k. bit.StandsFor (bit.path_delay k w) (bit.lines_of s) []) is stands))
+opened_bits s v cells stream w width n is same stands none =
+    let one = subst (λ k. bit.StandsFor (bit.path_delay k w) (bit.lines_of s) []) is stands in
+    let both = subst (λ k. bit.StandsFor (bit.path_delay v k) (bit.lines_of s) []) same one in
+    rw (first_of-none stream n none) both
 
 pub returns-clause-state : goal.returns-clause-state
 returns-clause-state c = λ packet.
@@ -31,7 +34,8 @@ returns-clause-state c = λ packet.
     moved _ packet 0 mode l c.in_ok-coded.ensures.mode c.in_ok-coded.ensures.layer record {
       coded_stands = c.in_ok-coded.ensures.state packet;
       bit_lines = c.in_ok-bits.ensures.paths ∙ ap cell_bits c.modulation-modulation.ensures;
-      bits_stand = opened_bits c.in_ok-bits.bits v cells (number_at v coded) _ _ (ap cell_bits c.modulation-modulation.ensures) c.cells-symbol.ensures.value c.in_ok-bits.ensures.stands (omega arith);
+      bits_stand = opened_bits c.in_ok-bits.bits v cells (number_at v coded) _ _ (204 * cells * 0) (ap cell_bits c.modulation-modulation.ensures) c.cells-symbol.ensures.value
+          c.in_ok-bits.ensures.stands (omega arith);
       cell_layout = ap time.layout_of c.in_ok-cells.ensures.stage ∙ c.in_ok-stage.ensures.layout;
       cells_stand = subst (λ st. AdjustedStandsFor (time.layout_of st) (time_adjust mode l.depth * cells) c.in_ok-cells.cells.line (time.held_of st) (first_of numbers (204 * cells * 0))) (sym c.in_ok-cells.ensures.stage)
           (new_adjusted (time.layout_of c.in_ok-stage.stage) _ (time_adjust mode l.depth * cells) numbers (204 * cells * 0) c.in_ok-cells.cells.line (time.held_of c.in_ok-stage.stage) (c.in_ok-cells.ensures.stands c.in_ok-stage.ensures.stands) (products (c.adjust_of.ensures.value ∙ ap (time_adjust mode) c.depth.ensures) c.cells-symbol.ensures.value) (omega arith));
