@@ -80,8 +80,8 @@ impl Coder {
         check_frame(&self.setting, self.mode, frame, first_packet, bytes)
     }
 
-    /// Writes the cells of the next frame, whose bytes are a broadcast packet of 204 bytes for each slot, with the bits of
-    /// its TMCC word. `out` has just these cells' room.
+    /// Writes the symbols of the next frame, without a head, whose bytes are a broadcast packet of 204 bytes for each slot,
+    /// with the bits of its TMCC word. `out` has just these symbols' room.
     pub fn frame(&mut self, bytes: &[u8], word: &[bool; 204], out: &mut [u8])
         requires size { length bytes.now ≡ 204 * slots_per_frame (mode_of self.old) (guard_of self.old) }
         requires codable { CanCode (setting_of self.old) (mode_of self.old) bytes.now }

@@ -2,8 +2,8 @@
 //!
 //! `code` runs over a stream of broadcast packets with a plan: it looks for the first frame head, and from there on reads,
 //! checks, codes and writes frame after frame, with another coder from each switch on, in either version of the stream of
-//! cells. `Coder` codes the frames of one
-//! epoch, and `check_frame` says whether the packets of a frame can be coded with a setting.
+//! cells. `Coder` codes the frames of one epoch, and `check_frame` says whether the packets of a frame can be coded with a
+//! setting.
 #![tactic(auto)]
 
 mod buffers;
