@@ -47,15 +47,16 @@ epoch_start-le p f = start-le p.first 0 p.switches f (omega arith)
 -- two frames are sent alike, in an epoch with the same start
 pub record SameEpoch (a b : At) : Type 0 where
   pub mode : a.mode ≡ b.mode
+  pub guard : a.guard ≡ b.guard
   pub setting : a.setting ≡ b.setting
   pub start : a.start ≡ b.start
 
 -- frames from the start of an epoch up to one of its frames are sent alike
 same_from : (first : Parameters) (t : Transmission) (start : ℕ) (ws : List Switch) (g f : ℕ) → RisesFrom start first ws → g ≤ f → (at_from t start ws f).start ≤ g → SameEpoch (at_from t start ws g) (at_from t start ws f)
-same_from first t start [] g f r h k = record { mode = refl; setting = refl; start = refl }
+same_from first t start [] g f r h k = record { mode = refl; guard = refl; setting = refl; start = refl }
 same_from first t start (w ∷ ws) g f r h k =
     elim (cases_lt f w.frame) [
-      | inl before ↦ rw (at_from-before t start w ws f before, at_from-before t start w ws g (omega arith)) (record { mode = refl; setting = refl; start = refl })
+      | inl before ↦ rw (at_from-before t start w ws f before, at_from-before t start w ws g (omega arith)) (record { mode = refl; guard = refl; setting = refl; start = refl })
       | inr after ↦ (let from = rw (at_from-after t start w ws f after) at k in
           let least = start-ge first w.after w.frame ws f r.4 in
           rw (at_from-after t start w ws f after, at_from-after t start w ws g (omega (arith, from, least))) (same_from first w.after w.frame ws g f r.4 h from))

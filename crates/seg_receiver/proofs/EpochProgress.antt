@@ -21,7 +21,8 @@ use Rattle.seg_receiver.specs.declared.fault.ReceiveFault.{ReceiveFault}
 use Rattle.seg_receiver.specs.declared.fault.ReceiveFault.TheVariants.{BadTmcc, Unannounced}
 use Rattle.seg_receiver.specs.declared.receiver.Receiver.{Receiver}
 use Rattle.seg_receiver.specs.CellStream.{View, first_version}
-use Rattle.seg_receiver.specs.Received.{countdown_read, epoch_start, setting_packet, word_packet, received_packets, tag_read, word_frame, received_frame}
+use Rattle.seg_receiver.specs.Epochs.{countdown_read, epoch_start}
+use Rattle.seg_receiver.specs.Received.{setting_packet, word_packet, received_packets, tag_read, word_frame, received_frame}
 use Rattle.seg_receiver.specs.ReceiveRefusals.{expected, is_expected, behind_refusal, part_refusal, word_refusal}
 use Rattle.seg_receiver.specs.ReceiveAnswers.{given_frame, receive_command}
 use Rattle.seg_receiver.specs.Receiver.{setting_of, StandsFor}

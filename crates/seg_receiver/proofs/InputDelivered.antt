@@ -18,11 +18,11 @@ use Rattle.seg_receiver.proofs.EpochStarts.{at_from-after, at_from-before}
 
 -- a frame that is before the end of another's epoch is in that epoch
 stays_from : (t : Transmission) (start : ℕ) (ws : List Switch) (f d : ℕ) → leaves_after f (at_from t start ws f).end d ≡ true → SameEpoch (at_from t start ws (f + d)) (at_from t start ws f)
-stays_from t start [] f d h = record { mode = refl; setting = refl; start = refl }
+stays_from t start [] f d h = record { mode = refl; guard = refl; setting = refl; start = refl }
 stays_from t start (w ∷ ws) f d h =
     elim (cases_lt f w.frame) [
       | inl before ↦ (let soon = ltb-true (f + d) w.frame (rw (at_from-before t start w ws f before) at h) in
-          rw (at_from-before t start w ws f before, at_from-before t start w ws (f + d) soon) (record { mode = refl; setting = refl; start = refl }))
+          rw (at_from-before t start w ws f before, at_from-before t start w ws (f + d) soon) (record { mode = refl; guard = refl; setting = refl; start = refl }))
       | inr after ↦ rw (at_from-after t start w ws f after, at_from-after t start w ws (f + d) (omega (arith, after))) (stays_from w.after w.frame ws f d (rw (at_from-after t start w ws f after) at h))
     ]
 

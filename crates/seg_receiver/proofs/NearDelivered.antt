@@ -22,7 +22,8 @@ use Rattle.isdbt_base.proofs.PlanEpochs.{epoch_start-le, same_epoch}
 use Rattle.coder_core.proofs.PlanWords.{read-plan_word}
 use Rattle.remux_core.specs.Multiplex.{broadcast, frame_tag}
 use Rattle.seg_receiver.specs.CellStream.{View}
-use Rattle.seg_receiver.specs.Received.{countdown_read, epoch_start, place_bits, setting_packet, word_packet, received_packets, tag_read, word_frame, received_frame, received}
+use Rattle.seg_receiver.specs.Epochs.{countdown_read, epoch_start}
+use Rattle.seg_receiver.specs.Received.{place_bits, setting_packet, word_packet, received_packets, tag_read, word_frame, received_frame, received}
 use Rattle.seg_receiver.specs.Delivered.{into_epoch, delayed_packet, delivered_packets, delivered, ArePackets, AreWordsNear, outer_word_at, IsNear}
 use Rattle.seg_receiver.proofs.EpochStarts.{epoch_start-zero, epoch_start-suc}
 

@@ -19,7 +19,8 @@ use Rattle.coder_core.specs.SentCells.{plan_info}
 use Rattle.isdbt_base.proofs.PlanEpochs.{setting_accepted}
 use Rattle.coder_core.proofs.PlanWords.{read-plan_word}
 use Rattle.seg_receiver.specs.CellStream.{FrameCells, segment_cells, View}
-use Rattle.seg_receiver.specs.Received.{epoch_start, place_bits, partial_packets, word_partial, partial_frame, received_partial}
+use Rattle.seg_receiver.specs.Epochs.{epoch_start}
+use Rattle.seg_receiver.specs.Received.{place_bits, partial_packets, word_partial, partial_frame, received_partial}
 use Rattle.seg_receiver.specs.Delivered.{into_epoch, delivered_packets, delivered_partial_frame, delivered_partial, ArePackets, IsNearPartial}
 use Rattle.seg_receiver.proofs.NearDelivered.{epoch_start-plan, given_out-near}
 

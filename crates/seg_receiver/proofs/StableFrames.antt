@@ -20,7 +20,8 @@ use Rattle.layer_chain.specs.OuterWords.{given_out}
 use Rattle.layer_chain.proofs.StableWords.{given_out-same}
 use Rattle.coder_core.proofs.SegmentCells.{carriers-positive}
 use Rattle.seg_receiver.specs.CellStream.{FrameCells, CellsAgreeUpTo, View, AgreeUpTo}
-use Rattle.seg_receiver.specs.Received.{countdown_read, epoch_start, place_bits, setting_packet, word_packet, received_packets, tag_read, word_frame, received_frame}
+use Rattle.seg_receiver.specs.Epochs.{countdown_read, epoch_start}
+use Rattle.seg_receiver.specs.Received.{place_bits, setting_packet, word_packet, received_packets, tag_read, word_frame, received_frame}
 use Rattle.seg_receiver.proofs.CleanDelivered.{has_segments, segment-lt}
 
 -- words that are alike before a frame give the same epoch

@@ -1,5 +1,5 @@
 -- A stream of cells as a receiver sees it: the TMCC words of its frames, and the cells by frame, symbol, segment and carrier. The layout is that of the cells that are sent.
-use Rattle.std.specs.Prelude.{◌≡◌, ◌≤◌, ◌<◌, ℕ, zero, suc, ◌+◌, ◌*◌, ◌%◌, Bool, true, false, ◌==◌, Result, Ok, Err, List, length, take, drop, map, slice_index}
+use Rattle.std.specs.Prelude.{◌≡◌, ◌≤◌, ◌<◌, ℕ, zero, suc, ◌+◌, ◌*◌, ◌%◌, Bool, true, false, ◌==◌, Option, Some, None, Result, Ok, Err, List, length, take, drop, map, slice_index}
 use Rattle.std.specs.List.{range_with_len}
 use Rattle.std.specs.Int.{w8, cast_signed}
 use Rattle.isdbt_base.specs.declared.kinds.Mode.{Mode}
@@ -14,6 +14,8 @@ use Rattle.isdbt_base.specs.Heads.{head_size, head_read}
 use Rattle.isdbt_base.specs.Numbers.{frame_symbols, carriers}
 use Rattle.cell_map.specs.declared.cell.Cell.{Cell}
 use Rattle.coder_core.specs.SentCells.{frame_size}
+use Rattle.seg_receiver.specs.Epochs.{epoch_head}
+use Rattle.seg_receiver.specs.HeadChecks.{bad_byte}
 
 -- bytes of a symbol
 abbrev pub symbol_size : Mode → ℕ
@@ -52,7 +54,7 @@ CellsAgreeUpTo mode f cell other = (g k segment carrier : ℕ) → g ≤ f → k
 
 -- ---- views
 
--- a stream of cells, however its frames are laid: its bytes, the byte at which each frame begins, the bytes of a frame's head, the mode, the guard interval and the TMCC word of each frame, and the cells
+-- a stream of cells, however its frames are laid: its bytes, the byte at which each frame begins, the bytes of a frame's head, the mode, the guard interval and the TMCC word of each frame, the byte at which its head is refused, and the cells
 pub record View : Type 0 where
   pub size : ℕ
   pub starts : ℕ → ℕ
@@ -60,6 +62,7 @@ pub record View : Type 0 where
   pub mode : ℕ → Mode
   pub guard : ℕ → Guard
   pub word : ℕ → List Bool
+  pub bad_head : ℕ → Option ℕ
   pub cell : FrameCells
 
 -- the first version of the stream: frames of one mode and guard interval, one behind the other with no heads
@@ -71,6 +74,7 @@ first_version mode guard stream = record {
   mode = λ f. mode;
   guard = λ f. guard;
   word = stream_word mode stream;
+  bad_head = λ f. None;
   cell = stream_cell mode stream;
 }
 
@@ -107,15 +111,30 @@ guard_said (Err fault) = G4
 abbrev pub symbols_from : List ℕ → ℕ → List ℕ
 symbols_from stream f = drop head_size (bytes_from stream f)
 
+-- mode, guard interval and TMCC word of frame f
+abbrev pub second_mode : List ℕ → ℕ → Mode
+second_mode stream f = mode_said (head_said (bytes_from stream f))
+
+abbrev pub second_guard : List ℕ → ℕ → Guard
+second_guard stream f = guard_said (head_said (bytes_from stream f))
+
+abbrev pub second_word : List ℕ → ℕ → List Bool
+second_word stream f = stream_word (second_mode stream f) (symbols_from stream f) 0
+
+-- what the head of frame f must repeat
+abbrev pub second_due : List ℕ → ℕ → Option (Mode × Guard)
+second_due stream = epoch_head (second_word stream) (second_mode stream) (second_guard stream)
+
 abbrev pub second_version : List ℕ → View
 second_version stream = record {
   size = length stream;
   starts = second_start stream;
   head = head_size;
-  mode = λ f. mode_said (head_said (bytes_from stream f));
-  guard = λ f. guard_said (head_said (bytes_from stream f));
-  word = λ f. stream_word (mode_said (head_said (bytes_from stream f))) (symbols_from stream f) 0;
-  cell = λ f. stream_cell (mode_said (head_said (bytes_from stream f))) (symbols_from stream f) 0;
+  mode = second_mode stream;
+  guard = second_guard stream;
+  word = second_word stream;
+  bad_head = λ f. bad_byte (second_due stream f) (take head_size (bytes_from stream f));
+  cell = λ f. stream_cell (second_mode stream f) (symbols_from stream f) 0;
 }
 
 -- ---- either version
@@ -131,6 +150,10 @@ writing_of (V1 mode guard) = record { v2 = false }
 writing_of V2 = record { v2 = true }
 
 -- ---- laws of views
+
+-- no head of the first frames is refused
+abbrev pub NoBadHead : View → ℕ → Type 0
+NoBadHead v count = (f : ℕ) → f < count → v.bad_head f ≡ None
 
 -- each of the first frames ends where the next begins
 abbrev pub AreInRow : View → ℕ → Type 0

@@ -17,7 +17,8 @@ use Rattle.seg_receiver.specs.declared.fault.ReceiveFault.TheVariants.{Truncated
 use Rattle.seg_receiver.specs.declared.epochs.EpochEnd.{EpochEnd}
 use Rattle.seg_receiver.specs.declared.epochs.EpochEnd.TheVariants.{Input, Next}
 use Rattle.seg_receiver.specs.CellStream.{FrameCells, stream_word, View}
-use Rattle.seg_receiver.specs.Received.{epoch_start, setting_packet}
+use Rattle.seg_receiver.specs.Epochs.{epoch_start, epoch_head}
+use Rattle.seg_receiver.specs.Received.{setting_packet}
 use Rattle.seg_receiver.specs.ReceiveRefusals.{word_refusal, word_before}
 use Rattle.seg_receiver.specs.ReceiveAnswers.{receive_kind, receive_command}
 
@@ -28,18 +29,18 @@ abbrev pub epoch_frame : Mode → Guard → Parameters → FrameCells → ℕ �
 epoch_frame mode guard s cell start h word first =
     ordered_frame mode guard s (record { odd = word.1; first = first; start_up = word.0.start_up; countdown = word.0.countdown }) null_packet (λ x j. setting_packet mode cell start (start + h) s x j (layer_of s x))
 
--- why a frame is refused of which so many bytes came: some and not all, or its word is refused
-abbrev pub FrameRefused : Mode → Bool → ℕ → Option (TmccFields × Bool) → List ℕ → ℕ → ReceiveFault → Type 0
-FrameRefused mode partial f before frame count fault =
-    ((0 < count) × (count < length frame) × (fault ≡ Truncated seats.In count))
+-- why a frame is refused of which a head of this size came, and so many bytes of its symbols: some and not all, or its word is refused
+abbrev pub FrameRefused : Mode → ℕ → Bool → ℕ → Option (TmccFields × Bool) → List ℕ → ℕ → ReceiveFault → Type 0
+FrameRefused mode head partial f before frame count fault =
+    ((0 < head + count) × (count < length frame) × (fault ≡ Truncated seats.In (head + count)))
     ⊎ ((length frame ≤ count) × (word_refusal f partial before (read (stream_word mode frame 0)) ≡ Some fault))
 
--- what a frame says of which so many bytes came
-abbrev pub FrameCheck : Mode → Bool → ℕ → Option (TmccFields × Bool) → List ℕ → ℕ → Result (Option (TmccFields × Bool)) ReceiveFault → Type 0
-FrameCheck mode partial f before frame count (Ok None) = count ≡ 0
-FrameCheck mode partial f before frame count (Ok (Some word)) =
+-- what the symbols of a frame say of which so many bytes came, behind a head of this size
+abbrev pub FrameCheck : Mode → ℕ → Bool → ℕ → Option (TmccFields × Bool) → List ℕ → ℕ → Result (Option (TmccFields × Bool)) ReceiveFault → Type 0
+FrameCheck mode head partial f before frame count (Ok None) = head + count ≡ 0
+FrameCheck mode head partial f before frame count (Ok (Some word)) =
     (length frame ≤ count) × (read (stream_word mode frame 0) ≡ Ok word) × (word_refusal f partial before (read (stream_word mode frame 0)) ≡ None)
-FrameCheck mode partial f before frame count (Err fault) = FrameRefused mode partial f before frame count fault
+FrameCheck mode head partial f before frame count (Err fault) = FrameRefused mode head partial f before frame count fault
 
 -- ---- progress
 
@@ -51,20 +52,42 @@ pub record Progress (v : View) (partial : Bool) (stream : List ℕ) (limit f : �
   pub within : v.starts f ≤ length stream
   pub left_is : left ≡ Some (drop (v.starts f) stream)
 
--- frame f was taken and is passed, and its word says this
-pub record Taken (v : View) (partial : Bool) (stream : List ℕ) (limit f : ℕ) (last : Option (TmccFields × Bool)) (word : TmccFields × Bool) (frame : List ℕ) (left : Option (List ℕ)) : Type 0 where
+-- the head of frame f was taken, where the frame has one, and says this mode and guard interval
+pub record HeadTaken (v : View) (stream : List ℕ) (f : ℕ) (said : Mode × Guard) (left : Option (List ℕ)) : Type 0 where
+  pub mode : v.mode f ≡ said.0
+  pub guard : v.guard f ≡ said.1
+  pub fine : v.bad_head f ≡ None
+  pub end : v.starts (f + 1) ≡ v.starts f + v.head + frame_size said.0
+  pub within : v.starts f + v.head ≤ length stream
+  pub left_is : left ≡ Some (drop (v.starts f + v.head) stream)
+
+-- what the head of frame f must repeat, by the frames before
+abbrev pub DueIn : View → ℕ → Option (Mode × Guard) → Type 0
+DueIn v f due = epoch_head v.word v.mode v.guard f ≡ due
+
+-- what the head of the next frame of a stream says: there is no such frame, or the head was taken, or it ends all
+abbrev pub HeadAnswer : View → Bool → List ℕ → ℕ → ℕ → Option (List ℕ) → Option (List ℕ) → Option (List ℕ) → Result (Option (Mode × Guard)) ReceiveFault → Type 0
+HeadAnswer v partial stream limit f before now left (Ok None) = Finished (receive_command v partial stream limit) f before now left
+HeadAnswer v partial stream limit f before now left (Ok (Some said)) = HeadTaken v stream f said left
+HeadAnswer v partial stream limit f before now left (Err fault) = LoneAnswer receive_kind (receive_command v partial stream limit) before now left (Err fault)
+
+-- frame f of this mode and guard interval was taken and is passed, its word says this, and these bytes begin with its symbols
+pub record Taken (v : View) (partial : Bool) (stream : List ℕ) (limit f : ℕ) (said : Mode × Guard) (last : Option (TmccFields × Bool)) (word : TmccFields × Bool) (frame : List ℕ) (left : Option (List ℕ)) : Type 0 where
   pub passed : Passed (receive_command v partial stream limit).frames (f + 1)
+  pub mode : v.mode f ≡ said.0
+  pub guard : v.guard f ≡ said.1
   pub word_is : read (v.word f) ≡ Ok word
   pub fine : word_refusal f partial last (Ok word) ≡ None
-  pub frame_is : frame ≡ take (frame_size (v.mode f)) (drop (v.starts f) stream)
+  pub head_fine : v.bad_head f ≡ None
+  pub frame_is : take (frame_size said.0) frame ≡ take (frame_size said.0) (drop (v.starts f + v.head) stream)
   pub within : v.starts (f + 1) ≤ length stream
   pub left_is : left ≡ Some (drop (v.starts (f + 1)) stream)
 
 -- what the next frame of a stream says: there is none, or it was taken and is passed, or it ends all
-abbrev pub TakeAnswer : View → Bool → List ℕ → ℕ → ℕ → Option (TmccFields × Bool) → List ℕ → Option (List ℕ) → Option (List ℕ) → Option (List ℕ) → Result (Option (TmccFields × Bool)) ReceiveFault → Type 0
-TakeAnswer v partial stream limit f last frame before now left (Ok None) = Finished (receive_command v partial stream limit) f before now left
-TakeAnswer v partial stream limit f last frame before now left (Ok (Some word)) = Taken v partial stream limit f last word frame left
-TakeAnswer v partial stream limit f last frame before now left (Err fault) = LoneAnswer receive_kind (receive_command v partial stream limit) before now left (Err fault)
+abbrev pub TakeAnswer : View → Bool → List ℕ → ℕ → ℕ → Mode × Guard → Option (TmccFields × Bool) → List ℕ → Option (List ℕ) → Option (List ℕ) → Option (List ℕ) → Result (Option (TmccFields × Bool)) ReceiveFault → Type 0
+TakeAnswer v partial stream limit f said last frame before now left (Ok None) = Finished (receive_command v partial stream limit) f before now left
+TakeAnswer v partial stream limit f said last frame before now left (Ok (Some word)) = Taken v partial stream limit f said last word frame left
+TakeAnswer v partial stream limit f said last frame before now left (Err fault) = LoneAnswer receive_kind (receive_command v partial stream limit) before now left (Err fault)
 
 -- ---- epochs
 
@@ -73,11 +96,13 @@ pub record AtEpoch (v : View) (partial : Bool) (stream : List ℕ) (limit f : �
   pub so_far : Progress v partial stream limit f last left before now
   pub begun : f < limit → epoch_start v.word f ≡ f
 
--- the first f frames were written, and the last is in the epoch that begins at a frame
-pub record InEpoch (v : View) (partial : Bool) (stream : List ℕ) (limit start f : ℕ) (word : TmccFields × Bool) (left before now : Option (List ℕ)) : Type 0 where
+-- the first f frames were written, and the last is in the epoch that begins at a frame, of this mode and guard interval
+pub record InEpoch (v : View) (partial : Bool) (stream : List ℕ) (limit start f : ℕ) (said : Mode × Guard) (word : TmccFields × Bool) (left before now : Option (List ℕ)) : Type 0 where
   pub so_far : Progress v partial stream limit f (Some word) left before now
   pub last : ℕ
   pub next : suc last ≡ f
+  pub mode : v.mode last ≡ said.0
+  pub guard : v.guard last ≡ said.1
   pub word_is : read (v.word last) ≡ Ok word
   pub begun : epoch_start v.word last ≡ start
 

@@ -2,14 +2,16 @@
 use Rattle.std.specs.Prelude.{ℕ, Bool, true, false, ◌==◌, List}
 use Rattle.edge_io.specs.FrameAnswers.{FaultKind, frame_refused, read_failed, write_failed, no_memory, LoneCommand}
 use Rattle.seg_receiver.specs.declared.fault.ReceiveFault.{ReceiveFault}
-use Rattle.seg_receiver.specs.declared.fault.ReceiveFault.TheVariants.{Truncated, BadTmcc, Unannounced, NotPartial, ReadFault, WriteFault, TooLong, NoMemory}
+use Rattle.seg_receiver.specs.declared.fault.ReceiveFault.TheVariants.{Truncated, BadHead, BadTmcc, Unannounced, NotPartial, ReadFault, WriteFault, TooLong, NoMemory}
 use Rattle.seg_receiver.specs.CellStream.{View}
-use Rattle.seg_receiver.specs.Received.{epoch_start, received_frame, partial_frame}
+use Rattle.seg_receiver.specs.Epochs.{epoch_start}
+use Rattle.seg_receiver.specs.Received.{received_frame, partial_frame}
 use Rattle.seg_receiver.specs.ReceiveRefusals.{receive_is_there, receive_refusal}
 
 -- what becomes of the receiving at a fault
 abbrev pub receive_kind : ReceiveFault → FaultKind
 receive_kind (Truncated seat over) = frame_refused
+receive_kind (BadHead frame byte) = frame_refused
 receive_kind (BadTmcc frame reason) = frame_refused
 receive_kind (Unannounced frame) = frame_refused
 receive_kind (NotPartial frame) = frame_refused

@@ -11,7 +11,7 @@ use Rattle.tmcc_word.specs.Fields.{TmccFields}
 use Rattle.tmcc_word.specs.Words.{setting_field}
 use Rattle.tmcc_word.specs.Reading.{read, ok_part}
 use Rattle.seg_receiver.specs.declared.fault.ReceiveFault.{ReceiveFault}
-use Rattle.seg_receiver.specs.declared.fault.ReceiveFault.TheVariants.{Truncated, BadTmcc, Unannounced, NotPartial, TooLong}
+use Rattle.seg_receiver.specs.declared.fault.ReceiveFault.TheVariants.{Truncated, BadHead, BadTmcc, Unannounced, NotPartial, TooLong}
 use Rattle.seg_receiver.specs.CellStream.{View}
 
 -- whether frame f is there: where the stream has a byte of it
@@ -52,11 +52,22 @@ abbrev pub word_before : View → ℕ → Option (TmccFields × Bool)
 word_before v zero = None
 word_before v (suc f) = ok_part (read (v.word f))
 
--- why frame f is refused, in full or with partial reception, with a limit on frames: it stands at the limit, it is unfinished, or its word is refused
+-- why frame f is refused where the stream ends before a byte: it is unfinished
+abbrev pub cut_refusal : View → ℕ → ℕ → Option ReceiveFault
+cut_refusal v f end = if nat_lt v.size end then Some (Truncated seats.In (v.size - v.starts f)) else None
+
+-- why frame f is refused whose head is refused at a byte, if it is
+abbrev pub head_refusal : ℕ → Option ℕ → Option ReceiveFault
+head_refusal f None = None
+head_refusal f (Some byte) = Some (BadHead f byte)
+
+-- why frame f is refused, in full or with partial reception, with a limit on frames: it stands at the limit, it ends in its head, its head is refused, it ends behind its head, or its word is refused
 unfoldable pub receive_refusal : View → Bool → ℕ → ℕ → Option ReceiveFault
 receive_refusal v partial limit f =
     if receive_is_there v f
     then first_some ((if f == limit then Some TooLong else None)
-    ∷ (if nat_lt v.size (v.starts (f + 1)) then Some (Truncated seats.In (v.size - v.starts f)) else None)
+    ∷ cut_refusal v f (v.starts f + v.head)
+    ∷ head_refusal f (v.bad_head f)
+    ∷ cut_refusal v f (v.starts (f + 1))
     ∷ word_refusal f partial (word_before v f) (read (v.word f)) ∷ [])
     else None

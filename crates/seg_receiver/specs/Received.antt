@@ -19,16 +19,7 @@ use Rattle.tmcc_word.specs.Fields.{TmccFields}
 use Rattle.tmcc_word.specs.Reading.{read}
 use Rattle.layer_chain.specs.OuterWords.{given_out}
 use Rattle.seg_receiver.specs.CellStream.{FrameCells, segment_cells, View}
-
--- the countdown that a word says; a word that is refused says none, as where no switch is near
-abbrev pub countdown_read : Result (TmccFields × Bool) TmccFault → ℕ
-countdown_read (Ok i) = i.0.countdown
-countdown_read (Err e) = 15
-
--- the first frame of the epoch of a frame: an epoch begins after each frame whose countdown is 0
-unfoldable pub epoch_start : (ℕ → List Bool) → ℕ → ℕ
-epoch_start words zero = zero
-epoch_start words (suc f) = if countdown_read (read (words f)) == 0 then suc f else epoch_start words f
+use Rattle.seg_receiver.specs.Epochs.{epoch_start}
 
 -- the bits of the cell at place w of epoch symbol y of a layer, from the epoch's first frame and the layer's first segment
 abbrev pub place_bits : Mode → LayerParameters → FrameCells → ℕ → ℕ → ℕ → ℕ → ℕ

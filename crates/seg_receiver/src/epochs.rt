@@ -1,32 +1,41 @@
 //! The frames of an epoch, with the receiver that is opened for it.
 
-ghost use Rattle.std.specs.Prelude.{◌≡◌, ℕ, List, ◌+◌, ◌≤◌, ◌<◌, Bool, true, false};
+ghost use Rattle.std.specs.Prelude.{◌≡◌, ℕ, List, ◌+◌, ◌≤◌, ◌<◌, Bool, true, false, IfOk, IfSome};
 ghost use Rattle.std.specs.declared.option.Option.{Option};
 ghost use Rattle.edge_io.specs.declared.shelf.Seat.TheVariants as seats;
-ghost use Rattle.edge_io.specs.FrameAnswers.{LoneCause, AnswerRoom};
+ghost use Rattle.edge_io.specs.FrameAnswers.{LoneCause, ReadingCause, AnswerRoom};
 ghost use Rattle.tmcc_word.specs.Fields.{TmccFields};
-ghost use Rattle.seg_receiver.specs.Buffers.{HasRoom};
-ghost use Rattle.seg_receiver.specs.CellStream.{stream_cell, first_version};
+ghost use Rattle.seg_receiver.specs.Buffers.{CanHave, HasRoom};
+ghost use Rattle.seg_receiver.specs.CellStream.{view_of};
 ghost use Rattle.seg_receiver.specs.Receiver.{mode_of, guard_of, setting_of, symbols_of, StandsFor};
 ghost use Rattle.seg_receiver.specs.ReceiveAnswers.{receive_kind};
-ghost use Rattle.seg_receiver.specs.EpochAnswers.{Taken, AtEpoch, InEpoch, EpochAnswer, EndsPast};
+ghost use Rattle.seg_receiver.specs.EpochAnswers.{Taken, TakeAnswer, AtEpoch, InEpoch, EpochAnswer, EndsPast};
 
 use crate::buffers::ReceiveBuffers;
 use crate::fault::ReceiveFault;
 use crate::feeding::feed_held;
-use crate::frames::{read_first, read_further, write_received};
+use crate::frames::{CellFrame, read_first, read_further, write_received};
+use crate::heads::take_head;
 use crate::receiver::Receiver;
 use edge_io::{Failed, Shelf, Sink};
-use isdbt_base::{Guard, Mode};
+use isdbt_base::{Form, Guard, Mode};
 use std::alloc::Global;
 use tmcc_word::TmccInfo;
 
-/// What is received: a stream of this mode and guard interval, at most so many frames of it.
+/// What is received: a stream of this version, at most so many frames of it.
 #[derive(Clone, Copy)]
 pub struct Reception {
+    pub form: Form,
+    pub limit: u32,
+}
+
+/// What is received in an epoch: frames of this mode and guard interval.
+#[derive(Clone, Copy)]
+pub struct Epoch {
+    pub form: Form,
+    pub limit: u32,
     pub mode: Mode,
     pub guard: Guard,
-    pub limit: u32,
 }
 
 /// Where an epoch begins.
@@ -47,53 +56,98 @@ pub enum EpochEnd {
     Next(EpochStart),
 }
 
+/// Takes, feeds and checks the next frame of an epoch, if there is one, behind a frame with this word.
+fn next_frame<H: Shelf>(
+    receiver: &mut Receiver,
+    epoch: Epoch,
+    number: u32,
+    last: &(TmccInfo, bool),
+    buffers: &mut ReceiveBuffers,
+    shelf: &mut H,
+) -> Result<Option<(TmccInfo, bool)>, ReceiveFault>
+    requires mode { mode_of receiver.old ≡ epoch.mode }
+    requires fresh { symbols_of receiver.old ≡ 0 }
+    requires below { number < epoch.limit }
+    requires can_have { CanHave epoch.form epoch.mode epoch.guard }
+    requires room { HasRoom epoch.form buffers.old }
+    requires is_open { H.is_open shelf.old seats.In ≡ true }
+    ensures still_open { H.is_open shelf.new ≡ H.is_open shelf.old }
+    ensures room_kept { HasRoom epoch.form buffers.new }
+    ensures answer { (stream : List ℕ) (start : ℕ) (first now : Option (List ℕ))
+        → InEpoch (view_of epoch.form stream) false stream epoch.limit start number (epoch.mode, epoch.guard) last.now (H.left shelf.old seats.In) first now → (last.now.0.countdown ≡ 0 → ⊥)
+        → TakeAnswer (view_of epoch.form stream) false stream epoch.limit number (epoch.mode, epoch.guard) (Option.Some last.now) buffers.new.frame.items first now (H.left shelf.new seats.In) result }
+    ensures state { IfOk result (λ o. IfSome o (λ word. (stream : List ℕ) (start h : ℕ) (first now : Option (List ℕ))
+        → InEpoch (view_of epoch.form stream) false stream epoch.limit start number (epoch.mode, epoch.guard) last.now (H.left shelf.old seats.In) first now → (last.now.0.countdown ≡ 0 → ⊥)
+        → start + h ≡ number → StandsFor receiver.old (view_of epoch.form stream).cell start h → StandsFor receiver.new (view_of epoch.form stream).cell start h)) }
+    ensures symbols { IfOk result (λ o. IfSome o (λ word. symbols_of receiver.new ≡ 204)) }
+    ensures mode_kept { mode_of receiver.new ≡ mode_of receiver.old }
+    ensures guard { guard_of receiver.new ≡ guard_of receiver.old }
+    ensures setting { setting_of receiver.new ≡ setting_of receiver.old }
+    ensures cause { ReadingCause receive_kind (H.faults shelf.old) (H.faults shelf.new) result }
+{
+    let due = Some((epoch.mode, epoch.guard));
+    match take_head(epoch.form, number, due, shelf) {
+        Ok(Some(_)) => {}
+        Ok(None) => return Ok(None),
+        Err(fault) => return Err(fault),
+    }
+    let frame = CellFrame {
+        form: epoch.form,
+        number,
+        mode: epoch.mode,
+        guard: epoch.guard,
+    };
+    read_further(
+        receiver,
+        frame,
+        &Some(*last),
+        &mut buffers.frame,
+        &mut buffers.cells,
+        shelf,
+    )
+}
+
 /// The frames of an epoch behind its first, from frame `next` on: reads, checks, receives and writes one after another.
 fn receive_further<H: Shelf, K: Sink>(
     receiver: &mut Receiver,
-    reception: Reception,
+    epoch: Epoch,
     next: u32,
     word: &(TmccInfo, bool),
     buffers: &mut ReceiveBuffers,
     shelf: &mut H,
     sink: &mut K,
 ) -> Result<EpochEnd, ReceiveFault>
-    requires mode { mode_of receiver.old ≡ reception.mode }
-    requires guard { guard_of receiver.old ≡ reception.guard }
+    requires mode { mode_of receiver.old ≡ epoch.mode }
+    requires guard { guard_of receiver.old ≡ epoch.guard }
     requires setting { setting_of receiver.old ≡ word.now.0.now }
     requires fresh { symbols_of receiver.old ≡ 0 }
     requires some { 0 < next }
-    requires most { next ≤ reception.limit }
-    requires room { HasRoom reception.mode reception.guard buffers.old }
+    requires most { next ≤ epoch.limit }
+    requires can_have { CanHave epoch.form epoch.mode epoch.guard }
+    requires room { HasRoom epoch.form buffers.old }
     requires is_open { H.is_open shelf.old seats.In ≡ true }
     ensures still_open { H.is_open shelf.new ≡ H.is_open shelf.old }
-    ensures kept { HasRoom reception.mode reception.guard buffers.new }
-    ensures past { (f : ℕ) → f < next → EndsPast f reception.limit result }
+    ensures kept { HasRoom epoch.form buffers.new }
+    ensures past { (f : ℕ) → f < next → EndsPast f epoch.limit result }
     ensures answer { (stream : List ℕ) (start h : ℕ) (first : Option (List ℕ)) → start + h ≡ next → 0 < h
-        → StandsFor receiver.old (stream_cell reception.mode stream) start h
-        → InEpoch (first_version reception.mode reception.guard stream) false stream reception.limit start next word.now (H.left shelf.old seats.In) first (K.written sink.old)
-        → EpochAnswer (first_version reception.mode reception.guard stream) false stream reception.limit first (K.written sink.new) (H.left shelf.new seats.In) result }
+        → StandsFor receiver.old (view_of epoch.form stream).cell start h
+        → InEpoch (view_of epoch.form stream) false stream epoch.limit start next (epoch.mode, epoch.guard) word.now (H.left shelf.old seats.In) first (K.written sink.old)
+        → EpochAnswer (view_of epoch.form stream) false stream epoch.limit first (K.written sink.new) (H.left shelf.new seats.In) result }
     ensures cause { LoneCause receive_kind (H.faults shelf.old) (H.faults shelf.new) (K.faults sink.old) (K.faults sink.new) result }
     ensures sink_room { K.room sink.new ≡ K.room sink.old }
     ensures reached { AnswerRoom receive_kind (K.room sink.old) (K.written sink.new) result }
 {
     let mut last = *word;
-    for frame in next..reception.limit {
+    for number in next..epoch.limit {
         if last.0.countdown == 0 {
-            let before = Some(last);
-            return Ok(EpochEnd::Next(EpochStart { frame, before }));
+            return Ok(EpochEnd::Next(EpochStart {
+                frame: number,
+                before: Some(last),
+            }));
         }
-        let read = read_further(
-            receiver,
-            frame,
-            &Some(last),
-            reception.mode,
-            &mut buffers.frame,
-            &mut buffers.cells,
-            shelf,
-        );
-        let word = match read {
+        let word = match next_frame(receiver, epoch, number, &last, buffers, shelf) {
             Ok(Some(word)) => word,
-            Ok(None) => return Ok(EpochEnd::Input(frame)),
+            Ok(None) => return Ok(EpochEnd::Input(number)),
             Err(fault) => return Err(fault),
         };
         match write_received(receiver, &word, false, &mut buffers.out, sink) {
@@ -103,7 +157,7 @@ fn receive_further<H: Shelf, K: Sink>(
         last = word;
     }
     Ok(EpochEnd::Next(EpochStart {
-        frame: reception.limit,
+        frame: epoch.limit,
         before: Some(last),
     }))
 }
@@ -112,35 +166,36 @@ fn receive_further<H: Shelf, K: Sink>(
 /// behind it.
 fn receive_held<H: Shelf, K: Sink>(
     alloc: Global,
-    reception: Reception,
+    epoch: Epoch,
     number: u32,
     word: &(TmccInfo, bool),
     buffers: &mut ReceiveBuffers,
     shelf: &mut H,
     sink: &mut K,
 ) -> Result<EpochEnd, ReceiveFault>
-    requires below { number < reception.limit }
-    requires few { reception.limit ≤ 16777216 }
-    requires room { HasRoom reception.mode reception.guard buffers.old }
+    requires below { number < epoch.limit }
+    requires few { epoch.limit ≤ 16777216 }
+    requires can_have { CanHave epoch.form epoch.mode epoch.guard }
+    requires room { HasRoom epoch.form buffers.old }
     requires is_open { H.is_open shelf.old seats.In ≡ true }
     ensures still_open { H.is_open shelf.new ≡ H.is_open shelf.old }
-    ensures kept { HasRoom reception.mode reception.guard buffers.new }
-    ensures past { EndsPast number reception.limit result }
+    ensures kept { HasRoom epoch.form buffers.new }
+    ensures past { EndsPast number epoch.limit result }
     ensures answer { (stream : List ℕ) (last : Option (TmccFields × Bool)) (known first : Option (List ℕ))
-        → AtEpoch (first_version reception.mode reception.guard stream) false stream reception.limit number last known first (K.written sink.old)
-        → Taken (first_version reception.mode reception.guard stream) false stream reception.limit number last word.now buffers.old.frame.items (H.left shelf.old seats.In)
-        → EpochAnswer (first_version reception.mode reception.guard stream) false stream reception.limit first (K.written sink.new) (H.left shelf.new seats.In) result }
+        → AtEpoch (view_of epoch.form stream) false stream epoch.limit number last known first (K.written sink.old)
+        → Taken (view_of epoch.form stream) false stream epoch.limit number (epoch.mode, epoch.guard) last word.now buffers.old.frame.items (H.left shelf.old seats.In)
+        → EpochAnswer (view_of epoch.form stream) false stream epoch.limit first (K.written sink.new) (H.left shelf.new seats.In) result }
     ensures cause { LoneCause receive_kind (H.faults shelf.old) (H.faults shelf.new) (K.faults sink.old) (K.faults sink.new) result }
     ensures sink_room { K.room sink.new ≡ K.room sink.old }
     ensures reached { AnswerRoom receive_kind (K.room sink.old) (K.written sink.new) result }
 {
     let info = word.0;
-    let Ok(mut receiver) = Receiver::open(alloc, &info.now, reception.mode, reception.guard) else {
+    let Ok(mut receiver) = Receiver::open(alloc, &info.now, epoch.mode, epoch.guard) else {
         return Err(ReceiveFault::NoMemory);
     };
     feed_held(
         &mut receiver,
-        reception.mode,
+        epoch.mode,
         &buffers.frame,
         &mut buffers.cells,
     );
@@ -150,7 +205,7 @@ fn receive_held<H: Shelf, K: Sink>(
     }
     receive_further(
         &mut receiver,
-        reception,
+        epoch,
         number + 1,
         word,
         buffers,
@@ -170,25 +225,42 @@ pub fn receive_epoch<H: Shelf, K: Sink>(
 ) -> Result<EpochEnd, ReceiveFault>
     requires below { start.now.frame < reception.limit }
     requires few { reception.limit ≤ 16777216 }
-    requires room { HasRoom reception.mode reception.guard buffers.old }
+    requires room { HasRoom reception.form buffers.old }
     requires is_open { H.is_open shelf.old seats.In ≡ true }
     ensures still_open { H.is_open shelf.new ≡ H.is_open shelf.old }
-    ensures kept { HasRoom reception.mode reception.guard buffers.new }
+    ensures kept { HasRoom reception.form buffers.new }
     ensures past { EndsPast start.now.frame reception.limit result }
     ensures answer { (stream : List ℕ) (first : Option (List ℕ))
-        → AtEpoch (first_version reception.mode reception.guard stream) false stream reception.limit start.now.frame start.now.before (H.left shelf.old seats.In) first (K.written sink.old)
-        → EpochAnswer (first_version reception.mode reception.guard stream) false stream reception.limit first (K.written sink.new) (H.left shelf.new seats.In) result }
+        → AtEpoch (view_of reception.form stream) false stream reception.limit start.now.frame start.now.before (H.left shelf.old seats.In) first (K.written sink.old)
+        → EpochAnswer (view_of reception.form stream) false stream reception.limit first (K.written sink.new) (H.left shelf.new seats.In) result }
     ensures cause { LoneCause receive_kind (H.faults shelf.old) (H.faults shelf.new) (K.faults sink.old) (K.faults sink.new) result }
     ensures sink_room { K.room sink.new ≡ K.room sink.old }
     ensures reached { AnswerRoom receive_kind (K.room sink.old) (K.written sink.new) result }
 {
     let number = start.frame;
     let before = start.before;
-    let read = read_first(number, &before, reception.mode, &mut buffers.frame, shelf);
-    let word = match read {
+    let form = reception.form;
+    let (mode, guard) = match take_head(form, number, None, shelf) {
+        Ok(Some(said)) => said,
+        Ok(None) => return Ok(EpochEnd::Input(number)),
+        Err(fault) => return Err(fault),
+    };
+    let frame = CellFrame {
+        form,
+        number,
+        mode,
+        guard,
+    };
+    let word = match read_first(frame, &before, &mut buffers.frame, shelf) {
         Ok(Some(word)) => word,
         Ok(None) => return Ok(EpochEnd::Input(number)),
         Err(fault) => return Err(fault),
     };
-    receive_held(alloc, reception, number, &word, buffers, shelf, sink)
+    let epoch = Epoch {
+        form,
+        limit: reception.limit,
+        mode,
+        guard,
+    };
+    receive_held(alloc, epoch, number, &word, buffers, shelf, sink)
 }

@@ -10,6 +10,10 @@ pub enum ReceiveFault {
     /// The seat's input ends `over` bytes into a frame.
     #[error("the input ends {over} bytes into a frame")]
     Truncated { seat: Seat, over: u32 },
+    /// The head of a frame is refused at this byte, the least such: it is no allowed value, or in a frame that doesn't begin an
+    /// epoch it is another than in the frame before.
+    #[error("bad head of frame {frame}, byte {byte}")]
+    BadHead { frame: u32, byte: u8 },
     /// The TMCC word of a frame is refused, or its sync word is that of the frame before.
     #[error("bad TMCC word in frame {frame}")]
     BadTmcc { frame: u32, reason: TmccFault },

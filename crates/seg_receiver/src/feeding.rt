@@ -13,14 +13,14 @@ use crate::receiver::Receiver;
 use crate::symbols::{read_cells, symbol_start};
 use cell_map::Cell;
 use edge_io::{Failed, Seat, Shelf, fill};
-use isdbt_base::{Mode, symbol_size};
+use isdbt_base::{Mode, carriers, symbol_size};
 
-/// Feeds a frame that is held.
+/// Feeds the symbols of a frame that are held at the front of a buffer; the cells of a symbol have room in `cells`.
 pub fn feed_held(receiver: &mut Receiver, mode: Mode, frame: &[u8], cells: &mut [Cell])
     requires mode { mode_of receiver.old ≡ mode }
     requires fresh { symbols_of receiver.old ≡ 0 }
-    requires size { length frame.now ≡ frame_size mode }
-    requires room { length cells.old ≡ 13 * carriers mode }
+    requires size { frame_size mode ≤ length frame.now }
+    requires room { 13 * carriers mode ≤ length cells.old }
     ensures state { (cell : FrameCells) (start h : ℕ) → StandsFor receiver.old cell start h → ShowsFrame mode cell (start + h) frame.now → StandsFor receiver.new cell start h }
     ensures symbols { symbols_of receiver.new ≡ 204 }
     ensures mode_kept { mode_of receiver.new ≡ mode_of receiver.old }
@@ -28,6 +28,7 @@ pub fn feed_held(receiver: &mut Receiver, mode: Mode, frame: &[u8], cells: &mut 
     ensures setting { setting_of receiver.new ≡ setting_of receiver.old }
 {
     let size = symbol_size(mode);
+    let cells = &mut cells[..13 * carriers(mode) as usize];
     for k in 0..204 {
         let from = symbol_start(k, size);
         read_cells(&frame[from..from + size], cells);

@@ -9,7 +9,7 @@ use crate::layer_cells::layer_part;
 use bts_info::FrameTag;
 use cell_map::Cell;
 use frame_order::{FrameOrder, LayerPackets, order};
-use isdbt_base::{Guard, Layer, Mode, NoMemory, Setting};
+use isdbt_base::{BROADCAST_BYTES, Guard, Layer, Mode, NoMemory, Setting, slots};
 use std::alloc::Global;
 use ts_packet::Packet;
 
@@ -44,7 +44,7 @@ pub struct Receiver {
 }
 
 impl Receiver {
-    ghost use Rattle.std.specs.Prelude.{◌≡◌, ℕ, ◌+◌, ◌*◌, ◌<◌, IfOk, length};
+    ghost use Rattle.std.specs.Prelude.{◌≡◌, ℕ, ◌+◌, ◌*◌, ◌<◌, ◌≤◌, IfOk, length};
     ghost use Rattle.isdbt_base.specs.Numbers.{carriers, slots_per_frame};
     ghost use Rattle.isdbt_base.specs.Parameters.{layer_of};
     ghost use Rattle.ts_packet.specs.Packets.{null_packet};
@@ -80,6 +80,14 @@ impl Receiver {
             b,
             c,
         })
+    }
+
+    /// Bytes of a frame of broadcast packets.
+    pub fn frame_bytes(&self) -> usize
+        ensures value { result ≡ 204 * slots_per_frame (mode_of self.now) (guard_of self.now) }
+        ensures most { result ≤ 1044480 }
+    {
+        BROADCAST_BYTES * slots(self.mode, self.guard) as usize
     }
 
     /// Takes the cells of the next symbol, by segment and then by carrier; a frame has 204 symbols.
