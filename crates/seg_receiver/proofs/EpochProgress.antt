@@ -1,10 +1,10 @@
 -- How far the frames of an epoch have come.
-use Rattle.std.proofs.Common.{◌≡◌, ℕ, suc, ◌+◌, ◌-◌, ◌<◌, Bool, true, false, List, [], ◌∷◌, length, take, refl, ap, sym, ◌∙◌, subst, arith}
+use Rattle.std.proofs.Common.{◌≡◌, ℕ, zero, suc, ◌+◌, ◌-◌, ◌≤◌, ◌<◌, Bool, true, false, List, [], ◌∷◌, length, take, refl, ap, sym, ◌∙◌, subst, arith}
 use Rattle.ts_packet.specs.Packets.{null_packet}
 use Rattle.std.specs.Prelude.{Some, None, Ok, ◌==◌, if◌then◌else◌}
 use Rattle.std.specs.Int.{from_bool}
 use Rattle.std.specs.declared.option.Option.{Option}
-use Rattle.std.proofs.lemmas.Bool.{ne_eqb, eq-eqb}
+use Rattle.std.proofs.lemmas.Bool.{ne_eqb, eq-eqb, cond_both}
 use Rattle.isdbt_base.specs.declared.kinds.Mode.{Mode}
 use Rattle.isdbt_base.specs.declared.kinds.Guard.{Guard}
 use Rattle.isdbt_base.specs.Outcome.{first_some}
@@ -17,25 +17,27 @@ use Rattle.tmcc_word.specs.declared.fault.TmccFault.TheVariants as words
 use Rattle.tmcc_word.specs.Fields.{TmccFields}
 use Rattle.tmcc_word.specs.Reading.{read}
 use Rattle.tmcc_word.proofs.Accepted.{read-fits}
+use Rattle.coder_core.specs.SentCells.{frame_size}
 use Rattle.seg_receiver.specs.declared.fault.ReceiveFault.{ReceiveFault}
 use Rattle.seg_receiver.specs.declared.fault.ReceiveFault.TheVariants.{BadTmcc, Unannounced}
 use Rattle.seg_receiver.specs.declared.receiver.Receiver.{Receiver}
-use Rattle.seg_receiver.specs.CellStream.{View, first_version}
-use Rattle.seg_receiver.specs.Epochs.{countdown_read, epoch_start}
+use Rattle.seg_receiver.specs.CellStream.{View}
+use Rattle.seg_receiver.specs.Epochs.{countdown_read, epoch_start, epoch_head}
 use Rattle.seg_receiver.specs.Received.{setting_packet, word_packet, received_packets, tag_read, word_frame, received_frame}
 use Rattle.seg_receiver.specs.ReceiveRefusals.{expected, is_expected, behind_refusal, part_refusal, word_refusal}
 use Rattle.seg_receiver.specs.ReceiveAnswers.{given_frame, receive_command}
 use Rattle.seg_receiver.specs.Receiver.{setting_of, StandsFor}
-use Rattle.seg_receiver.specs.EpochAnswers.{epoch_frame, Progress, Taken, AtEpoch, InEpoch}
+use Rattle.seg_receiver.specs.EpochAnswers.{epoch_frame, Progress, HeadTaken, DueIn, Taken, AtEpoch, InEpoch}
 use Rattle.seg_receiver.proofs.SameSettings.{same-equal}
 use Rattle.seg_receiver.proofs.ReceiveProgress.{begin, next}
+use Rattle.seg_receiver.proofs.ViewLaws.{IsLaid}
 
 -- a receiver stands for the epoch that begins at a frame, up to frame f
-pub record Going (r : Receiver) (v : View) (partial : Bool) (stream : List ℕ) (limit start f : ℕ) (word : TmccFields × Bool) (left before now : Option (List ℕ)) : Type 0 where
+pub record Going (r : Receiver) (v : View) (partial : Bool) (stream : List ℕ) (limit start f : ℕ) (said : Mode × Guard) (word : TmccFields × Bool) (left before now : Option (List ℕ)) : Type 0 where
   pub setting : setting_of r ≡ word.0.now
   pub stands : StandsFor r v.cell start (f - start)
   pub from : start < f
-  pub so_far : InEpoch v partial stream limit start f word left before now
+  pub so_far : InEpoch v partial stream limit start f said word left before now
 
 -- ---- settings
 
@@ -56,10 +58,18 @@ setting-stays f partial last word h k fine other =
     let due : expected last.0 ≡ Some last.0.now = rw (ne_eqb last.0.countdown 0 other) refl in
     same-equal last.0.now word.0.now h k (sym (ap (λ o. is_expected o word.0.now) due) ∙ had)
 
--- before the first frame
-pub at_first : (mode : Mode) (guard : Guard) (partial : Bool) (stream : List ℕ) (limit : ℕ) (left before : Option (List ℕ)) → left ≡ Some stream → AtEpoch (first_version mode guard stream) partial stream limit 0 None left before before
+-- an epoch begins at a frame of it or before
+epoch_start-le : (words : ℕ → List Bool) (f : ℕ) → epoch_start words f ≤ f
 unfolding epoch_start
-at_first mode guard partial stream limit left before told = record { so_far = begin mode guard partial stream limit left before told; begun = λ less. refl }
+epoch_start-le words zero = omega arith
+epoch_start-le words (suc f) =
+    let k = epoch_start-le words f in
+    cond_both (countdown_read (read (words f)) == 0) (suc f) (epoch_start words f) (λ n. n ≤ suc f) (λ e. omega arith) (λ e. omega (arith, k))
+
+-- before the first frame
+pub at_first : (v : View) (stream : List ℕ) (partial : Bool) (limit : ℕ) (left before : Option (List ℕ)) → IsLaid v stream → left ≡ Some stream → AtEpoch v partial stream limit 0 None left before before
+unfolding epoch_start
+at_first v stream partial limit left before laid told = record { so_far = begin v stream laid partial limit left before told; begun = λ less. refl }
 
 -- ---- what a frame gives out
 
@@ -104,61 +114,100 @@ module _ (v : View) (partial : Bool) (stream : List ℕ) (limit : ℕ) where
   unfolding epoch_start
   begun-suc last word is = ap (λ r. if countdown_read r == 0 then suc last else epoch_start v.word last) is
 
-  pub begun-in : (start f : ℕ) (word : TmccFields × Bool) (left before now : Option (List ℕ)) → InEpoch v partial stream limit start f word left before now → (word.0.countdown ≡ 0 → ⊥) → epoch_start v.word f ≡ start
-  begun-in start f word left before now so_far other =
+  pub begun-in : (start f : ℕ) (said : Mode × Guard) (word : TmccFields × Bool) (left before now : Option (List ℕ)) → InEpoch v partial stream limit start f said word left before now → (word.0.countdown ≡ 0 → ⊥) → epoch_start v.word f ≡ start
+  begun-in start f said word left before now so_far other =
       ap (epoch_start v.word) (sym so_far.next) ∙ begun-suc so_far.last word so_far.word_is
       ∙ rw (ne_eqb word.0.countdown 0 other) so_far.begun
 
-  begun-next : (start f : ℕ) (word : TmccFields × Bool) (left before now : Option (List ℕ)) → InEpoch v partial stream limit start f word left before now → word.0.countdown ≡ 0 → epoch_start v.word f ≡ f
-  begun-next start f word left before now so_far none =
+  begun-next : (start f : ℕ) (said : Mode × Guard) (word : TmccFields × Bool) (left before now : Option (List ℕ)) → InEpoch v partial stream limit start f said word left before now → word.0.countdown ≡ 0 → epoch_start v.word f ≡ f
+  begun-next start f said word left before now so_far none =
       ap (epoch_start v.word) (sym so_far.next) ∙ begun-suc so_far.last word so_far.word_is
       ∙ rw (eq-eqb word.0.countdown 0 none) so_far.next
 
   -- a frame with countdown 0 ends its epoch
-  pub ends-epoch : (start f : ℕ) (word : TmccFields × Bool) (left before now : Option (List ℕ)) → InEpoch v partial stream limit start f word left before now → word.0.countdown ≡ 0 → AtEpoch v partial stream limit f (Some word) left before now
-  ends-epoch start f word left before now so_far none = record { so_far = so_far.so_far; begun = λ less. begun-next start f word left before now so_far none }
+  pub ends-epoch : (start f : ℕ) (said : Mode × Guard) (word : TmccFields × Bool) (left before now : Option (List ℕ)) → InEpoch v partial stream limit start f said word left before now → word.0.countdown ≡ 0 → AtEpoch v partial stream limit f (Some word) left before now
+  ends-epoch start f said word left before now so_far none = record { so_far = so_far.so_far; begun = λ less. begun-next start f said word left before now so_far none }
 
   -- so does the limit
-  pub ends-at_limit : (start f : ℕ) (word : TmccFields × Bool) (left before now : Option (List ℕ)) → f ≡ limit → InEpoch v partial stream limit start f word left before now → AtEpoch v partial stream limit limit (Some word) left before now
-  ends-at_limit start f word left before now is so_far = record {
+  pub ends-at_limit : (start f : ℕ) (said : Mode × Guard) (word : TmccFields × Bool) (left before now : Option (List ℕ)) → f ≡ limit → InEpoch v partial stream limit start f said word left before now → AtEpoch v partial stream limit limit (Some word) left before now
+  ends-at_limit start f said word left before now is so_far = record {
     so_far = subst (λ n. Progress v partial stream limit n (Some word) left before now) is so_far.so_far;
     begun = λ less. absurd (omega (arith, less));
   }
 
   -- ---- a frame more
 
-  pub first_in : (f : ℕ) (last : Option (TmccFields × Bool)) (word : TmccFields × Bool) (frame : List ℕ) (known left before mid after : Option (List ℕ)) → f < limit → AtEpoch v partial stream limit f last known before mid
-      → Taken v partial stream limit f last word frame left → after ≡ append_known mid (given_frame v partial f) → InEpoch v partial stream limit f (f + 1) word left before after
-  first_in f last word frame known left before mid after less at taken wrote = record {
-    so_far = next v partial stream limit f last word frame known left before mid after at.so_far taken wrote;
+  pub first_in : (f : ℕ) (said : Mode × Guard) (last : Option (TmccFields × Bool)) (word : TmccFields × Bool) (frame : List ℕ) (known left before mid after : Option (List ℕ)) → f < limit → AtEpoch v partial stream limit f last known before mid
+      → Taken v partial stream limit f said last word frame left → after ≡ append_known mid (given_frame v partial f) → InEpoch v partial stream limit f (f + 1) said word left before after
+  first_in f said last word frame known left before mid after less at taken wrote = record {
+    so_far = next v partial stream limit f said last word frame known left before mid after at.so_far taken wrote;
     last = f;
     next = omega arith;
+    mode = taken.mode;
+    guard = taken.guard;
     word_is = taken.word_is;
     begun = at.begun less;
   }
 
-  pub next_in : (start f : ℕ) (last word : TmccFields × Bool) (frame : List ℕ) (known left before mid after : Option (List ℕ)) → InEpoch v partial stream limit start f last known before mid → (last.0.countdown ≡ 0 → ⊥)
-      → Taken v partial stream limit f (Some last) word frame left → after ≡ append_known mid (given_frame v partial f) → InEpoch v partial stream limit start (f + 1) word left before after
-  next_in start f last word frame known left before mid after so_far other taken wrote = record {
-    so_far = next v partial stream limit f (Some last) word frame known left before mid after so_far.so_far taken wrote;
+  pub next_in : (start f : ℕ) (said : Mode × Guard) (last word : TmccFields × Bool) (frame : List ℕ) (known left before mid after : Option (List ℕ)) → InEpoch v partial stream limit start f said last known before mid → (last.0.countdown ≡ 0 → ⊥)
+      → Taken v partial stream limit f said (Some last) word frame left → after ≡ append_known mid (given_frame v partial f) → InEpoch v partial stream limit start (f + 1) said word left before after
+  next_in start f said last word frame known left before mid after so_far other taken wrote = record {
+    so_far = next v partial stream limit f said (Some last) word frame known left before mid after so_far.so_far taken wrote;
     last = f;
     next = omega arith;
+    mode = taken.mode;
+    guard = taken.guard;
     word_is = taken.word_is;
-    begun = begun-in start f last known before mid so_far other;
+    begun = begun-in start f said last known before mid so_far other;
   }
 
   -- the setting of the next frame in an epoch
-  pub next_setting : (start f : ℕ) (last word : TmccFields × Bool) (frame : List ℕ) (known left before mid : Option (List ℕ)) → InEpoch v partial stream limit start f last known before mid → (last.0.countdown ≡ 0 → ⊥)
-      → Taken v partial stream limit f (Some last) word frame left → last.0.now ≡ word.0.now
-  next_setting start f last word frame known left before mid so_far other taken =
+  pub next_setting : (start f : ℕ) (said : Mode × Guard) (last word : TmccFields × Bool) (frame : List ℕ) (known left before mid : Option (List ℕ)) → InEpoch v partial stream limit start f said last known before mid → (last.0.countdown ≡ 0 → ⊥)
+      → Taken v partial stream limit f said (Some last) word frame left → last.0.now ≡ word.0.now
+  next_setting start f said last word frame known left before mid so_far other taken =
       let fits = read-fits (v.word so_far.last) last so_far.word_is in
       let fits' = read-fits (v.word f) word taken.word_is in
       setting-stays f partial last word fits.now fits'.now taken.fine other
 
+  -- ---- the head of a further frame
+
+  -- the next frame doesn't begin an epoch
+  goes_on : (start f : ℕ) (said : Mode × Guard) (last : TmccFields × Bool) (known before mid : Option (List ℕ)) → (so_far : InEpoch v partial stream limit start f said last known before mid) → (last.0.countdown ≡ 0 → ⊥) → (epoch_start v.word (suc so_far.last) ≡ suc so_far.last → ⊥)
+  goes_on start f said last known before mid so_far other e =
+      let begun = ap (epoch_start v.word) so_far.next ∙ begun-in start f said last known before mid so_far other in
+      let le = epoch_start-le v.word so_far.last in
+      let from = so_far.begun in
+      omega (arith, e, begun, le, from)
+
+  -- its head must repeat the mode and the guard interval of the epoch
+  pub next_due : (start f : ℕ) (said : Mode × Guard) (last : TmccFields × Bool) (known before mid : Option (List ℕ)) → InEpoch v partial stream limit start f said last known before mid → (last.0.countdown ≡ 0 → ⊥) → DueIn v f (Some said)
+  unfolding epoch_head
+  next_due start f said last known before mid so_far other =
+      ap (epoch_head v.word v.mode v.guard) (sym so_far.next)
+      ∙ rw (ne_eqb (epoch_start v.word (suc so_far.last)) (suc so_far.last) (goes_on start f said last known before mid so_far other))
+      (ap (λ m. Some (m, v.guard so_far.last)) so_far.mode ∙ ap (λ g. Some (said.0, g)) so_far.guard)
+
+  -- and says them
+  pub next_head : (start f : ℕ) (said saying : Mode × Guard) (last : TmccFields × Bool) (known left before mid : Option (List ℕ)) → IsLaid v stream → InEpoch v partial stream limit start f said last known before mid → (last.0.countdown ≡ 0 → ⊥)
+      → HeadTaken v stream f saying left → HeadTaken v stream f said left
+  next_head start f said saying last known left before mid laid so_far other head =
+      let at = so_far.next in
+      let kept = laid.keeps so_far.last (ap v.bad_head at ∙ head.fine) (goes_on start f said last known before mid so_far other) in
+      let mode : saying.0 ≡ said.0 = sym head.mode ∙ ap v.mode (sym at) ∙ kept.0 ∙ so_far.mode in
+      let guard : saying.1 ≡ said.1 = sym head.guard ∙ ap v.guard (sym at) ∙ kept.1 ∙ so_far.guard in
+      record {
+        mode = head.mode ∙ mode;
+        guard = head.guard ∙ guard;
+        fine = head.fine;
+        end = head.end ∙ ap (λ m. v.starts f + v.head + frame_size m) mode;
+        within = head.within;
+        left_is = head.left_is;
+      }
+
   -- there is no memory for the receiver of an epoch
-  pub wants_memory : (f : ℕ) (last : Option (TmccFields × Bool)) (word : TmccFields × Bool) (frame : List ℕ) (known left before now : Option (List ℕ)) → f < limit → AtEpoch v partial stream limit f last known before now
-      → Taken v partial stream limit f last word frame left → WantsMemory (receive_command v partial stream limit).frames (Took (receive_command v partial stream limit) left) before now
-  wants_memory f last word frame known left before now less at taken = record {
+  pub wants_memory : (f : ℕ) (said : Mode × Guard) (last : Option (TmccFields × Bool)) (word : TmccFields × Bool) (frame : List ℕ) (known left before now : Option (List ℕ)) → f < limit → AtEpoch v partial stream limit f last known before now
+      → Taken v partial stream limit f said last word frame left → WantsMemory (receive_command v partial stream limit).frames (Took (receive_command v partial stream limit) left) before now
+  wants_memory f said last word frame known left before now less at taken = record {
     frame = f;
     opens = eq-eqb (epoch_start v.word f) f (at.begun less);
     passed = taken.passed;

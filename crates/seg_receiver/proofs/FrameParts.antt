@@ -1,11 +1,12 @@
 -- A frame that is read symbol by symbol.
-use Rattle.std.proofs.Common.{◌≡◌, ℕ, ◌+◌, ◌≤◌, ◌<◌, min, List, ◌++◌, length, take, drop, Some, IfSome, refl, ap, sym, ◌∙◌, subst, arith, length-drop, drop-drop}
+use Rattle.std.proofs.Common.{◌≡◌, ℕ, ◌+◌, ◌*◌, ◌≤◌, ◌<◌, min, List, ◌++◌, length, take, drop, Some, IfSome, refl, ap, sym, ◌∙◌, subst, arith, length-drop, drop-drop}
 use Rattle.std.specs.declared.option.Option.{Option}
 use Rattle.std.proofs.Math.Seq.{take-add}
-use Rattle.std.proofs.lemmas.List.{take_all}
+use Rattle.std.proofs.lemmas.List.{take_all, length-take-le}
 use borrow.Rule.Slice.PartMut.{put_mid}
 use Rattle.edge_io.specs.Known.{drop_known}
 use Rattle.edge_io.proofs.Known.{behind}
+use Rattle.cell_map.specs.declared.cell.Cell.{Cell}
 use Rattle.seg_receiver.specs.FrameReading.{Came, Stopped}
 
 -- the buffer's first m bytes are the first that were left, which are taken
@@ -88,3 +89,15 @@ pub stopped-known : (n : ℕ) (buffer rest : List ℕ) (known left : Option (Lis
 stopped-known n buffer rest known left told less within taken =
     let P : Option (List ℕ) → Type 0 = λ o. IfSome o (λ bytes. n ≤ length bytes) in
     record { taken = n; below = less; within = subst P told within; left_is = taken ∙ ap (drop_known n) told }
+
+-- ---- the front of a buffer
+
+-- the front of a buffer that has room for a frame has its size
+pub front-size : (buffer part : List ℕ) (n size : ℕ) → 204 * n ≡ size → size ≤ length buffer → length part ≡ length (take (204 * n) buffer) → length part ≡ size
+front-size buffer part n size is fits same =
+    let cut = length-take-le (204 * n) buffer (omega (arith, is, fits)) in
+    omega (arith, is, cut, same)
+
+-- the front of the cells that has room for those of a symbol
+pub cells-size : (cells : List Cell) (n size : ℕ) → n ≡ size → 13 * size ≤ length cells → length (take (13 * n) cells) ≡ 13 * size
+cells-size cells n size is fits = length-take-le (13 * n) cells (omega (arith, is, fits)) ∙ ap (λ m. 13 * m) is

@@ -8,9 +8,12 @@ pub mod EpochStarts
 pub mod FoundFrames
 pub mod FrameParts
 pub mod GoodFrames
+pub mod GoodHeads
+pub mod HeadAnswers
 pub mod InputDelivered
 pub mod MultiplexedBytes
 pub mod NearDelivered
+pub mod NearHeads
 pub mod NearOutcome
 pub mod NextSettings
 pub mod PartialDelivered
@@ -24,3 +27,4 @@ pub mod StableFrames
 pub mod StreamLaws
 pub mod SymbolPlaces
 pub mod TakenFrames
+pub mod ViewLaws

@@ -12,7 +12,7 @@ use Rattle.tmcc_word.specs.Words.{setting_field}
 use Rattle.tmcc_word.specs.Reading.{read}
 use Rattle.coder_core.specs.SentCells.{plan_word, plan_info, frame_size}
 use Rattle.coder_core.proofs.PlanWords.{read-plan_word}
-use Rattle.seg_receiver.specs.CellStream.{View, AreInRow}
+use Rattle.seg_receiver.specs.CellStream.{View, AreInRow, NoBadHead}
 use Rattle.seg_receiver.specs.ReceiveRefusals.{receive_is_there, same_setting, expected, is_expected, behind_refusal, part_refusal, word_refusal, word_before, receive_refusal}
 use Rattle.seg_receiver.proofs.NextSettings.{next_setting-zero, setting-stays}
 
@@ -80,19 +80,22 @@ ends_within v count f row whole less =
 there : (v : View) (count f : ℕ) → AreInRow v count → v.size ≡ v.starts count → f < count → receive_is_there v f ≡ true
 there v count f row whole h = lt-ltb (v.starts f) v.size (let before = rises v count f row h in let within = ends_within v count f row whole h in omega (arith, before, within))
 
--- no frame of a view in a row with a plan's words is refused
-pub near_outcome : (v : View) (p : Schedule) (partial : Bool) (count limit : ℕ) → IsPlan p → AreInRow v count → v.size ≡ v.starts count → ((f : ℕ) → f < count → v.word f ≡ plan_word p f) →
+-- no frame of a view in a row with a plan's words and no bad head is refused
+pub near_outcome : (v : View) (p : Schedule) (partial : Bool) (count limit : ℕ) → IsPlan p → AreInRow v count → NoBadHead v count → v.size ≡ v.starts count → ((f : ℕ) → f < count → v.word f ≡ plan_word p f) →
     ((f : ℕ) → f < count → partial ≡ true → (at_frame p f).setting.partial ≡ true) → count ≤ limit →
     IsOutcome (receive_refusal v partial limit) (receive_is_there v) count None
 unfolding receive_refusal
-near_outcome v p partial count limit plan row whole words asked few =
+near_outcome v p partial count limit plan row heads whole words asked few =
     let over : receive_is_there v count ≡ false = le-ltb (v.starts count) v.size (omega (arith, whole)) in
     record {
       before = λ f h. (
         (let here = there v count f row whole h in
-            let fits : nat_lt v.size (v.starts (f + 1)) ≡ false = le-ltb v.size (v.starts (f + 1)) (ends_within v count f row whole h) in
+            let end = ends_within v count f row whole h in
+            let next = row f h in
+            let headed : nat_lt v.size (v.starts f + v.head) ≡ false = le-ltb v.size (v.starts f + v.head) (omega (arith, end, next)) in
+            let fits : nat_lt v.size (v.starts (f + 1)) ≡ false = le-ltb v.size (v.starts (f + 1)) end in
             let soon : (f == limit) ≡ false = ne_eqb f limit (λ e. omega (arith, e, h, few)) in
-            rw (here, soon, fits, words-fine v p partial f plan (λ g k. words g (omega (arith, h, k))) (asked f h)) refl),
+            rw (here, soon, headed, heads f h, fits, words-fine v p partial f plan (λ g k. words g (omega (arith, h, k))) (asked f h)) refl),
         there v count f row whole h,
       );
       at = rw over refl;

@@ -2,7 +2,6 @@
 use Rattle.std.proofs.Common.{◌≡◌, ℕ, suc, ◌+◌, ◌-◌, ◌*◌, ◌≤◌, ◌<◌, Bool, true, false, List, [], ◌∷◌, length, take, drop, refl, ap, sym, ◌∙◌, arith, inl, inr, length-drop, drop-drop}
 use Rattle.std.specs.Prelude.{Some, None, Ok, ◌==◌, nat_lt, if◌then◌else◌}
 use Rattle.std.specs.declared.option.Option.{Option}
-use Rattle.std.proofs.Math.Nat.{mul-le-mul_right}
 use Rattle.std.proofs.lemmas.Bool.{ne_eqb, eq-eqb, lt-ltb, le-ltb}
 use Rattle.std.proofs.lemmas.List.{drop_all, take_all}
 use Rattle.isdbt_base.specs.declared.kinds.Mode.{Mode}
@@ -18,25 +17,33 @@ use Rattle.tmcc_word.specs.Reading.{read, ok_part}
 use Rattle.coder_core.specs.SentCells.{frame_size}
 use Rattle.seg_receiver.specs.declared.fault.ReceiveFault.{ReceiveFault}
 use Rattle.seg_receiver.specs.declared.fault.ReceiveFault.TheVariants.{Truncated, TooLong}
-use Rattle.seg_receiver.specs.CellStream.{stream_word, View, first_version}
-use Rattle.seg_receiver.specs.ReceiveRefusals.{receive_is_there, word_refusal, word_before, receive_refusal}
+use Rattle.seg_receiver.specs.CellStream.{stream_word, View}
+use Rattle.seg_receiver.specs.ReceiveRefusals.{receive_is_there, cut_refusal, head_refusal, word_refusal, word_before, receive_refusal}
 use Rattle.seg_receiver.specs.ReceiveAnswers.{given_frame, receive_command}
 use Rattle.seg_receiver.specs.FrameReading.{Came, Stopped}
-use Rattle.seg_receiver.specs.EpochAnswers.{FrameRefused, Progress, Taken}
+use Rattle.seg_receiver.specs.EpochAnswers.{FrameRefused, HeadTaken, Progress, Taken}
 use Rattle.seg_receiver.proofs.SymbolPlaces.{word-frame}
+use Rattle.seg_receiver.proofs.ViewLaws.{IsLaid, starts-le}
 
 first_some-one : (x : Option ReceiveFault) → first_some (x ∷ []) ≡ x
 first_some-one None = refl
 first_some-one (Some y) = refl
 
-third : (a b c : Option ReceiveFault) → a ≡ None → b ≡ None → first_some (a ∷ b ∷ c ∷ []) ≡ c
-third a b c none none' = rw (none, none') (first_some-one c)
+-- of five causes the first that is there
+fifth : (a b c d e : Option ReceiveFault) → a ≡ None → b ≡ None → c ≡ None → d ≡ None → first_some (a ∷ b ∷ c ∷ d ∷ e ∷ []) ≡ e
+fifth a b c d e na nb nc nd = rw (na, nb, nc, nd) (first_some-one e)
 
-second : (a b c : Option ReceiveFault) (x : ReceiveFault) → a ≡ None → b ≡ Some x → first_some (a ∷ b ∷ c ∷ []) ≡ Some x
-second a b c x none is = rw (none, is) refl
+fourth : (a b c d e : Option ReceiveFault) (x : ReceiveFault) → a ≡ None → b ≡ None → c ≡ None → d ≡ Some x → first_some (a ∷ b ∷ c ∷ d ∷ e ∷ []) ≡ Some x
+fourth a b c d e x na nb nc is = rw (na, nb, nc, is) refl
 
-first-of : (a b c : Option ReceiveFault) (x : ReceiveFault) → a ≡ Some x → first_some (a ∷ b ∷ c ∷ []) ≡ Some x
-first-of a b c x is = rw is refl
+third : (a b c d e : Option ReceiveFault) (x : ReceiveFault) → a ≡ None → b ≡ None → c ≡ Some x → first_some (a ∷ b ∷ c ∷ d ∷ e ∷ []) ≡ Some x
+third a b c d e x na nb is = rw (na, nb, is) refl
+
+second : (a b c d e : Option ReceiveFault) (x : ReceiveFault) → a ≡ None → b ≡ Some x → first_some (a ∷ b ∷ c ∷ d ∷ e ∷ []) ≡ Some x
+second a b c d e x na is = rw (na, is) refl
+
+first-of : (a b c d e : Option ReceiveFault) (x : ReceiveFault) → a ≡ Some x → first_some (a ∷ b ∷ c ∷ d ∷ e ∷ []) ≡ Some x
+first-of a b c d e x is = rw is refl
 
 not_at_limit : (f limit : ℕ) → f < limit → (if f == limit then Some TooLong else None) ≡ None
 not_at_limit f limit less = rw (ne_eqb f limit (λ e. omega (arith, e, less))) refl
@@ -61,47 +68,53 @@ module _ (v : View) (partial : Bool) (stream : List ℕ) (limit : ℕ) where
   unfolding receive_refusal
   refusal-none f none = rw none refl
 
-  cut : ℕ → Option ReceiveFault
-  cut f = if nat_lt v.size (v.starts (f + 1)) then Some (Truncated seats.In (v.size - v.starts f)) else None
-
   refusal-parts : (f : ℕ) → receive_is_there v f ≡ true → receive_refusal v partial limit f ≡
-      first_some ((if f == limit then Some TooLong else None) ∷ cut f ∷ word_refusal f partial (word_before v f) (read (v.word f)) ∷ [])
-  unfolding receive_refusal cut
+      first_some ((if f == limit then Some TooLong else None) ∷ cut_refusal v f (v.starts f + v.head) ∷ head_refusal f (v.bad_head f) ∷ cut_refusal v f (v.starts (f + 1)) ∷ word_refusal f partial (word_before v f) (read (v.word f)) ∷ [])
+  unfolding receive_refusal
   refusal-parts f is = rw is refl
 
-  cut-short : (f n : ℕ) → v.size < v.starts (f + 1) → v.size - v.starts f ≡ n → cut f ≡ Some (Truncated seats.In n)
-  unfolding cut
-  cut-short f n short over = rw (lt-ltb v.size (v.starts (f + 1)) short) (ap (λ n. Some (Truncated seats.In n)) over)
+  cut-short : (f n end : ℕ) → v.size < end → v.size - v.starts f ≡ n → cut_refusal v f end ≡ Some (Truncated seats.In n)
+  cut-short f n end short over = rw (lt-ltb v.size end short) (ap (λ n. Some (Truncated seats.In n)) over)
 
-  uncut : (f : ℕ) → v.starts (f + 1) ≤ v.size → cut f ≡ None
-  unfolding cut
-  uncut f whole = rw (le-ltb v.size (v.starts (f + 1)) whole) refl
+  uncut : (f end : ℕ) → end ≤ v.size → cut_refusal v f end ≡ None
+  uncut f end whole = rw (le-ltb v.size end whole) refl
 
-  -- why a frame that is there in full is refused, below the limit
-  refusal-whole : (f : ℕ) (last : Option (TmccFields × Bool)) → f < limit → v.starts f < v.size → v.starts (f + 1) ≤ v.size → word_before v f ≡ last
-      → receive_refusal v partial limit f ≡ word_refusal f partial last (read (v.word f))
-  refusal-whole f last less some whole word =
+  -- why a frame is refused that ends in its head, below the limit
+  refusal-in_head : (f n : ℕ) → f < limit → v.starts f < v.size → v.size < v.starts f + v.head → v.size - v.starts f ≡ n → receive_refusal v partial limit f ≡ Some (Truncated seats.In n)
+  refusal-in_head f n less some short over =
+      refusal-parts f (there f some) ∙ second _ _ _ _ _ (Truncated seats.In n) (not_at_limit f limit less) (cut-short f n (v.starts f + v.head) short over)
+
+  -- whose head is refused
+  refusal-head : (f : ℕ) (fault : ReceiveFault) → f < limit → v.starts f < v.size → v.starts f + v.head ≤ v.size → head_refusal f (v.bad_head f) ≡ Some fault → receive_refusal v partial limit f ≡ Some fault
+  refusal-head f fault less some whole is =
+      refusal-parts f (there f some) ∙ third _ _ _ _ _ fault (not_at_limit f limit less) (uncut f (v.starts f + v.head) whole) is
+
+  -- that ends behind its head
+  refusal-short : (f n : ℕ) → f < limit → v.starts f < v.size → v.starts f + v.head ≤ v.size → v.bad_head f ≡ None → v.size < v.starts (f + 1) → v.size - v.starts f ≡ n → receive_refusal v partial limit f ≡ Some (Truncated seats.In n)
+  refusal-short f n less some whole fine short over =
       refusal-parts f (there f some)
-      ∙ third _ _ _ (not_at_limit f limit less) (uncut f whole)
-      ∙ ap (λ o. word_refusal f partial o (read (v.word f))) word
+      ∙ fourth _ _ _ _ _ (Truncated seats.In n) (not_at_limit f limit less) (uncut f (v.starts f + v.head) whole) (ap (head_refusal f) fine) (cut-short f n (v.starts (f + 1)) short over)
 
-  -- why a frame that is there in part is refused, below the limit
-  refusal-short : (f n : ℕ) → f < limit → v.starts f < v.size → v.size < v.starts (f + 1) → v.size - v.starts f ≡ n → receive_refusal v partial limit f ≡ Some (Truncated seats.In n)
-  refusal-short f n less some short over =
-      refusal-parts f (there f some) ∙ second _ _ _ (Truncated seats.In n) (not_at_limit f limit less) (cut-short f n short over)
+  -- that is there in full
+  refusal-whole : (f : ℕ) (last : Option (TmccFields × Bool)) → f < limit → v.starts f < v.size → v.starts f + v.head ≤ v.size → v.bad_head f ≡ None → v.starts (f + 1) ≤ v.size → word_before v f ≡ last
+      → receive_refusal v partial limit f ≡ word_refusal f partial last (read (v.word f))
+  refusal-whole f last less some headed fine whole word =
+      refusal-parts f (there f some)
+      ∙ fifth _ _ _ _ _ (not_at_limit f limit less) (uncut f (v.starts f + v.head) headed) (ap (head_refusal f) fine) (uncut f (v.starts (f + 1)) whole)
+      ∙ ap (λ o. word_refusal f partial o (read (v.word f))) word
 
   -- why a frame that is there at the limit is refused
   refusal-limit : v.starts limit < v.size → receive_refusal v partial limit limit ≡ Some TooLong
-  refusal-limit some = refusal-parts limit (there limit some) ∙ first-of _ _ _ TooLong (at_limit limit)
+  refusal-limit some = refusal-parts limit (there limit some) ∙ first-of _ _ _ _ _ TooLong (at_limit limit)
 
   -- the stream ends
-  finished : (f : ℕ) (last : Option (TmccFields × Bool)) (left left' before now : Option (List ℕ)) → Progress v partial stream limit f last left before now → v.size ≤ v.starts f → left' ≡ Some [] → Finished command f before now left'
+  pub finished : (f : ℕ) (last : Option (TmccFields × Bool)) (left left' before now : Option (List ℕ)) → Progress v partial stream limit f last left before now → v.size ≤ v.starts f → left' ≡ Some [] → Finished command f before now left'
   finished f last left left' before now so_far le none =
       let gone = not_there f le in
       record { ended = ended-done command.frames f before now so_far.passed so_far.written (refusal-none f gone) gone; left_is = none }
 
   -- a frame is refused
-  refused : (f n : ℕ) (fault : ReceiveFault) (last : Option (TmccFields × Bool)) (left left' before now : Option (List ℕ)) → Progress v partial stream limit f last left before now → receive_refusal v partial limit f ≡ Some fault
+  pub refused : (f n : ℕ) (fault : ReceiveFault) (last : Option (TmccFields × Bool)) (left left' before now : Option (List ℕ)) → Progress v partial stream limit f last left before now → receive_refusal v partial limit f ≡ Some fault
       → v.starts f + n ≤ v.starts (f + 1) → left' ≡ Some (drop n (drop (v.starts f) stream)) → Refused command.frames (TookAtMost command left') fault before now
   refused f n fault last left left' before now so_far why most rest = record {
     frame = f;
@@ -113,9 +126,9 @@ module _ (v : View) (partial : Bool) (stream : List ℕ) (limit : ℕ) where
   word-next : (f : ℕ) (word : TmccFields × Bool) → read (v.word f) ≡ Ok word → word_before v (f + 1) ≡ Some word
   word-next f word is = ap (word_before v) (let e : f + 1 ≡ suc f = omega arith in e) ∙ ap ok_part is
 
-  pub next : (f : ℕ) (last : Option (TmccFields × Bool)) (word : TmccFields × Bool) (frame : List ℕ) (known left before mid after : Option (List ℕ)) → Progress v partial stream limit f last known before mid → Taken v partial stream limit f last word frame left
+  pub next : (f : ℕ) (said : Mode × Guard) (last : Option (TmccFields × Bool)) (word : TmccFields × Bool) (frame : List ℕ) (known left before mid after : Option (List ℕ)) → Progress v partial stream limit f last known before mid → Taken v partial stream limit f said last word frame left
       → after ≡ append_known mid (given_frame v partial f) → Progress v partial stream limit (f + 1) (Some word) left before after
-  next f last word frame known left before mid after so_far taken wrote = record {
+  next f said last word frame known left before mid after so_far taken wrote = record {
     passed = taken.passed;
     written = wrote-more command.frames f before mid after so_far.written wrote;
     word = word-next f word taken.word_is;
@@ -123,9 +136,9 @@ module _ (v : View) (partial : Bool) (stream : List ℕ) (limit : ℕ) where
     left_is = taken.left_is;
   }
 
-  pub write-failed : (f n : ℕ) (last : Option (TmccFields × Bool)) (word : TmccFields × Bool) (frame : List ℕ) (known left before mid after : Option (List ℕ)) → Progress v partial stream limit f last known before mid → Taken v partial stream limit f last word frame left
+  pub write-failed : (f n : ℕ) (said : Mode × Guard) (last : Option (TmccFields × Bool)) (word : TmccFields × Bool) (frame : List ℕ) (known left before mid after : Option (List ℕ)) → Progress v partial stream limit f last known before mid → Taken v partial stream limit f said last word frame left
       → n < length (given_frame v partial f) → after ≡ append_known mid (take n (given_frame v partial f)) → WriteFailed command.frames (Took command left) before after
-  write-failed f n last word frame known left before mid after so_far taken short wrote = record {
+  write-failed f n said last word frame known left before mid after so_far taken short wrote = record {
     frame = f;
     sent = n;
     passed = taken.passed;
@@ -134,147 +147,200 @@ module _ (v : View) (partial : Bool) (stream : List ℕ) (limit : ℕ) where
     account = taken.left_is;
   }
 
--- ---- the first version of the stream
+-- ---- a stream whose frames lie one behind the other
 
-module _ (mode : Mode) (guard : Guard) (partial : Bool) (stream : List ℕ) (limit : ℕ) where
-  abbrev Plain : View
-  Plain = first_version mode guard stream
-
+module _ (v : View) (stream : List ℕ) (laid : IsLaid v stream) (partial : Bool) (limit : ℕ) where
   abbrev receiving : LoneCommand ReceiveFault
-  receiving = receive_command (first_version mode guard stream) partial stream limit
+  receiving = receive_command v partial stream limit
 
   -- ---- before the first frame
 
-  pub begin : (left before : Option (List ℕ)) → left ≡ Some stream → Progress Plain partial stream limit 0 None left before before
-  begin left before told = record {
-    passed = passed-none receiving.frames;
-    written = wrote-none receiving.frames before;
-    word = refl;
-    within = omega arith;
-    left_is = told ∙ ap (λ n. Some (drop n stream)) (let e : 0 ≡ 0 * frame_size mode = omega arith in e);
-  }
-
-  -- ---- the stream ends
-
-  pub nothing_came : (f n : ℕ) (last : Option (TmccFields × Bool)) (frame : List ℕ) (left left' before now : Option (List ℕ)) → length frame ≡ frame_size mode → n ≡ 0
-      → Progress Plain partial stream limit f last left before now → Came frame (drop (f * frame_size mode) stream) left' n → Finished receiving f before now left'
-  nothing_came f n last frame left left' before now size none so_far came =
-      let rest = length-drop (f * frame_size mode) stream in
-      let counted = came.all in
-      let le : length stream ≤ f * frame_size mode = omega (arith, counted, rest, none, size) in
-      finished Plain partial stream limit f last left left' before now so_far le (came.left_is ∙ ap Some (drop_all n (drop (f * frame_size mode) stream) (omega (arith, rest, le))))
-
-  -- ---- a frame is refused
-
-  -- the frame of a buffer that is full
-  pub whole-frame : (f n : ℕ) (frame : List ℕ) (left : Option (List ℕ)) → length frame ≡ frame_size mode → length frame ≤ n → Came frame (drop (f * frame_size mode) stream) left n → frame ≡ take (frame_size mode) (drop (f * frame_size mode) stream)
-  whole-frame f n frame left size full came =
-      let counted = came.all in
-      let all : n ≡ frame_size mode = omega (arith, counted, size, full) in
-      sym (take_all n frame full) ∙ came.front ∙ ap (λ m. take m (drop (f * frame_size mode) stream)) all
-
-  whole-there : (f n : ℕ) (frame : List ℕ) (left : Option (List ℕ)) → length frame ≡ frame_size mode → length frame ≤ n → Came frame (drop (f * frame_size mode) stream) left n → (f + 1) * frame_size mode ≤ length stream
-  whole-there f n frame left size full came =
-      let rest = length-drop (f * frame_size mode) stream in
-      let counted = came.all in
-      omega (arith, counted, rest, size, full)
-
-  some-there : (f : ℕ) → (f + 1) * frame_size mode ≤ length stream → f * frame_size mode < length stream
-  some-there f whole = (let some : 0 < frame_size mode = omega arith in omega (arith, whole, some))
-
-  pub frame-refused : (f n : ℕ) (fault : ReceiveFault) (last : Option (TmccFields × Bool)) (frame : List ℕ) (left left' before now : Option (List ℕ)) → f < limit → length frame ≡ frame_size mode
-      → Progress Plain partial stream limit f last left before now → Came frame (drop (f * frame_size mode) stream) left' n → FrameRefused mode partial f last frame n fault
-      → Refused receiving.frames (TookAtMost receiving left') fault before now
-  frame-refused f n fault last frame left left' before now less size so_far came (inl cut_off) =
-      let rest = length-drop (f * frame_size mode) stream in
-      let counted = came.all in
-      let some = cut_off.0 in
-      let short = cut_off.1 in
-      let over : length stream - f * frame_size mode ≡ n = omega (arith, counted, rest, size, short) in
-      let within = so_far.within in
-      refused Plain partial stream limit f n fault last left left' before now so_far
-      (refusal-short Plain partial stream limit f n less (omega (arith, over, some)) (omega (arith, over, short, size, within)) over ∙ ap Some (sym cut_off.2))
-      (omega (arith, short, size)) came.left_is
-  frame-refused f n fault last frame left left' before now less size so_far came (inr bad) =
-      let counted = came.all in
-      let full = bad.0 in
-      let whole = whole-there f n frame left' size full came in
-      let is = whole-frame f n frame left' size full came in
-      refused Plain partial stream limit f n fault last left left' before now so_far
-      (refusal-whole Plain partial stream limit f last less (some-there f whole) whole so_far.word ∙ ap (λ w. word_refusal f partial last (read w)) (sym (word-frame mode stream frame f is)) ∙ bad.1)
-      (omega (arith, counted, size)) came.left_is
-
-  -- ---- a frame is passed
-
-  pub taken_frame : (f n : ℕ) (last : Option (TmccFields × Bool)) (word : TmccFields × Bool) (frame : List ℕ) (left left' before now : Option (List ℕ)) → f < limit → length frame ≡ frame_size mode → length frame ≤ n
-      → read (stream_word mode frame 0) ≡ Ok word → word_refusal f partial last (read (stream_word mode frame 0)) ≡ None
-      → Progress Plain partial stream limit f last left before now → Came frame (drop (f * frame_size mode) stream) left' n → Taken Plain partial stream limit f last word frame left'
-  taken_frame f n last word frame left left' before now less size full says fine so_far came =
-      let whole = whole-there f n frame left' size full came in
-      let some = some-there f whole in
-      let is = whole-frame f n frame left' size full came in
-      let counted = came.all in
-      let rest = length-drop (f * frame_size mode) stream in
-      let bits = word-frame mode stream frame f is in
-      let end : f * frame_size mode + n ≡ (f + 1) * frame_size mode = omega (arith, counted, rest, size, full) in
+  pub begin : (left before : Option (List ℕ)) → left ≡ Some stream → Progress v partial stream limit 0 None left before before
+  begin left before told =
+      let first = laid.first in
       record {
-        passed = passed-more receiving.frames f so_far.passed
-            (refusal-whole Plain partial stream limit f last less some whole so_far.word ∙ ap (λ w. word_refusal f partial last (read w)) (sym bits) ∙ fine)
-            (there Plain partial stream limit f some);
-        word_is = ap read (sym bits) ∙ says;
-        fine = ap (word_refusal f partial last) (sym says) ∙ fine;
-        frame_is = is;
-        within = whole;
-        left_is = came.left_is ∙ ap Some (drop-drop n (f * frame_size mode) stream) ∙ ap (λ m. Some (drop m stream)) end;
+        passed = passed-none receiving.frames;
+        written = wrote-none receiving.frames before;
+        word = refl;
+        within = omega (arith, first);
+        left_is = told ∙ ap (λ n. Some (drop n stream)) (sym first);
       }
+
+  -- ---- heads
+
+  -- nothing is left of the stream
+  pub no_frame : (f : ℕ) (last : Option (TmccFields × Bool)) (left left' before now : Option (List ℕ)) → Progress v partial stream limit f last left before now → length stream ≤ v.starts f → left' ≡ Some [] → Finished receiving f before now left'
+  no_frame f last left left' before now so_far le none =
+      let size = laid.size in
+      finished v partial stream limit f last left left' before now so_far (omega (arith, size, le)) none
+
+  -- the stream ends in a head
+  pub cut_head : (f n : ℕ) (last : Option (TmccFields × Bool)) (left left' before now : Option (List ℕ)) → f < limit → 0 < n → n < v.head → length stream - v.starts f ≡ n
+      → Progress v partial stream limit f last left before now → left' ≡ Some (drop n (drop (v.starts f) stream)) → Refused receiving.frames (TookAtMost receiving left') (Truncated seats.In n) before now
+  cut_head f n last left left' before now less some short over so_far rest =
+      let size = laid.size in
+      let within = so_far.within in
+      let over' : v.size - v.starts f ≡ n = ap (λ m. m - v.starts f) size ∙ over in
+      let most : v.starts f + n ≤ v.starts (f + 1) = elim (laid.past f) [ | inl fits ↦ omega (arith, fits, short) | inr past ↦ omega (arith, past, over, within, some) ] in
+      refused v partial stream limit f n (Truncated seats.In n) last left left' before now so_far
+      (refusal-in_head v partial stream limit f n less (omega (arith, size, over, some)) (omega (arith, size, over, short)) over') most rest
+
+  -- a head is refused
+  pub bad_head : (f : ℕ) (fault : ReceiveFault) (last : Option (TmccFields × Bool)) (left left' before now : Option (List ℕ)) → f < limit → 0 < v.head → v.starts f + v.head ≤ length stream → head_refusal f (v.bad_head f) ≡ Some fault
+      → Progress v partial stream limit f last left before now → left' ≡ Some (drop v.head (drop (v.starts f) stream)) → Refused receiving.frames (TookAtMost receiving left') fault before now
+  bad_head f fault last left left' before now less some whole is so_far rest =
+      let size = laid.size in
+      let most : v.starts f + v.head ≤ v.starts (f + 1) = elim (laid.past f) [ | inl fits ↦ fits | inr past ↦ omega (arith, past, whole) ] in
+      refused v partial stream limit f v.head fault last left left' before now so_far
+      (refusal-head v partial stream limit f fault less (omega (arith, size, whole, some)) (omega (arith, size, whole)) is) most rest
 
   -- ---- a read failed
 
-  pub read-failed : (f : ℕ) (seat : Seat) (last : Option (TmccFields × Bool)) (frame : List ℕ) (left left' before now : Option (List ℕ)) → f < limit → length frame ≡ frame_size mode
-      → Progress Plain partial stream limit f last left before now → Stopped frame (drop (f * frame_size mode) stream) left' → ReadFailed receiving.frames (λ f seat. StoppedIn receiving left' f) seat before now
-  read-failed f seat last frame left left' before now less size so_far stop =
-      let below = stop.below in
-      let more : f + 1 ≤ limit = omega (arith, less) in
-      let end = mul-le-mul_right (frame_size mode) more in
+  pub read-failed : (f n : ℕ) (seat : Seat) (last : Option (TmccFields × Bool)) (left left' before now : Option (List ℕ)) → f < limit → v.starts f + n < v.starts (f + 1)
+      → Progress v partial stream limit f last left before now → left' ≡ Some (drop (v.starts f + n) stream) → ReadFailed receiving.frames (λ f seat. StoppedIn receiving left' f) seat before now
+  read-failed f n seat last left left' before now less below so_far stop =
+      let end = starts-le v stream (f + 1) limit laid (omega (arith, less)) in
       record {
         frame = f;
         passed = so_far.passed;
         written = so_far.written;
         account = record {
-          taken = f * frame_size mode + stop.taken;
-          left_is = stop.left_is ∙ ap Some (drop-drop stop.taken (f * frame_size mode) stream);
+          taken = v.starts f + n;
+          left_is = stop;
           from = omega arith;
-          below = omega (arith, below, size);
-          most = omega (arith, below, size, end);
+          below = below;
+          most = omega (arith, below, end);
         };
       }
 
+  -- ---- the symbols behind a head
+
+  module _ (f : ℕ) (said : Mode × Guard) (last : Option (TmccFields × Bool)) (known left before now : Option (List ℕ)) (less : f < limit) (so_far : Progress v partial stream limit f last known before now) (head : HeadTaken v stream f said left) where
+    abbrev rest : List ℕ
+    rest = drop (v.starts f + v.head) stream
+
+    pub nothing_came : (n : ℕ) (part : List ℕ) (left' : Option (List ℕ)) → length part ≡ frame_size said.0 → v.head + n ≡ 0 → Came part rest left' n → Finished receiving f before now left'
+    nothing_came n part left' size none came =
+        let left_over = length-drop (v.starts f + v.head) stream in
+        let counted = came.all in
+        let some : 0 < frame_size said.0 = omega arith in
+        let le : length stream ≤ v.starts f = omega (arith, counted, left_over, none, size, some) in
+        no_frame f last known left' before now so_far le (came.left_is ∙ ap Some (drop_all n rest (omega (arith, left_over, le))))
+
+    -- the symbols of a buffer that is full
+    whole-part : (n : ℕ) (part : List ℕ) (left' : Option (List ℕ)) → length part ≡ frame_size said.0 → length part ≤ n → Came part rest left' n → part ≡ take (frame_size said.0) rest
+    whole-part n part left' size full came =
+        let counted = came.all in
+        let all : n ≡ frame_size said.0 = omega (arith, counted, size, full) in
+        sym (take_all n part full) ∙ came.front ∙ ap (λ m. take m rest) all
+
+    whole-there : (n : ℕ) (part : List ℕ) (left' : Option (List ℕ)) → length part ≡ frame_size said.0 → length part ≤ n → Came part rest left' n → v.starts (f + 1) ≤ length stream
+    whole-there n part left' size full came =
+        let left_over = length-drop (v.starts f + v.head) stream in
+        let counted = came.all in
+        let end = head.end in
+        let within = head.within in
+        omega (arith, counted, left_over, size, full, end, within)
+
+    -- its word is that of the frame
+    word-part : (part : List ℕ) → part ≡ take (frame_size said.0) rest → stream_word said.0 part 0 ≡ v.word f
+    word-part part is =
+        word-frame said.0 rest part 0 (is ∙ ap (λ n. take (frame_size said.0) (drop n rest)) (let e : 0 ≡ 0 * frame_size said.0 = omega arith in e))
+        ∙ ap (λ m. stream_word m rest 0) (sym head.mode) ∙ laid.words f
+
+    refusal-of_whole : v.starts (f + 1) ≤ length stream → receive_refusal v partial limit f ≡ word_refusal f partial last (read (v.word f))
+    refusal-of_whole whole =
+        let size = laid.size in
+        let rises = laid.rises f in
+        let within = head.within in
+        refusal-whole v partial stream limit f last less (omega (arith, size, rises, whole)) (omega (arith, size, within)) head.fine (omega (arith, size, whole)) so_far.word
+
+    pub frame-refused : (n : ℕ) (fault : ReceiveFault) (part : List ℕ) (left' : Option (List ℕ)) → length part ≡ frame_size said.0 → Came part rest left' n → FrameRefused said.0 v.head partial f last part n fault
+        → Refused receiving.frames (TookAtMost receiving left') fault before now
+    frame-refused n fault part left' size came (inl cut_off) =
+        let left_over = length-drop (v.starts f + v.head) stream in
+        let counted = came.all in
+        let some = cut_off.0 in
+        let short = cut_off.1 in
+        let within = head.within in
+        let end = head.end in
+        let all = laid.size in
+        let over : v.size - v.starts f ≡ v.head + n = omega (arith, counted, left_over, size, short, within, all) in
+        refused v partial stream limit f (v.head + n) fault last known left' before now so_far
+        (refusal-short v partial stream limit f (v.head + n) less (omega (arith, over, some)) (omega (arith, within, all)) head.fine (omega (arith, over, short, size, end, within, all)) over ∙ ap Some (sym cut_off.2))
+        (omega (arith, short, size, end)) (came.left_is ∙ ap Some (drop-drop n (v.starts f + v.head) stream ∙ ap (λ m. drop m stream) (let e : v.starts f + v.head + n ≡ v.starts f + (v.head + n) = omega arith in e) ∙ sym (drop-drop (v.head + n) (v.starts f) stream)))
+    frame-refused n fault part left' size came (inr bad) =
+        let counted = came.all in
+        let full = bad.0 in
+        let whole = whole-there n part left' size full came in
+        let is = whole-part n part left' size full came in
+        let end = head.end in
+        refused v partial stream limit f (v.head + n) fault last known left' before now so_far
+        (refusal-of_whole whole ∙ ap (λ w. word_refusal f partial last (read w)) (sym (word-part part is)) ∙ bad.1)
+        (omega (arith, counted, size, end)) (came.left_is ∙ ap Some (drop-drop n (v.starts f + v.head) stream ∙ ap (λ m. drop m stream) (let e : v.starts f + v.head + n ≡ v.starts f + (v.head + n) = omega arith in e) ∙ sym (drop-drop (v.head + n) (v.starts f) stream)))
+
+    pub taken_frame : (n : ℕ) (word : TmccFields × Bool) (frame part : List ℕ) (left' : Option (List ℕ)) → length part ≡ frame_size said.0 → take (frame_size said.0) frame ≡ part → length part ≤ n
+        → read (stream_word said.0 part 0) ≡ Ok word → word_refusal f partial last (read (stream_word said.0 part 0)) ≡ None → Came part rest left' n → Taken v partial stream limit f said last word frame left'
+    taken_frame n word frame part left' size front full says fine came =
+        let whole = whole-there n part left' size full came in
+        let is = whole-part n part left' size full came in
+        let counted = came.all in
+        let left_over = length-drop (v.starts f + v.head) stream in
+        let bits = word-part part is in
+        let at = head.end in
+        let within = head.within in
+        let all = laid.size in
+        let rises = laid.rises f in
+        let end : v.starts f + v.head + n ≡ v.starts (f + 1) = omega (arith, counted, left_over, size, full, at, within) in
+        record {
+          passed = passed-more receiving.frames f so_far.passed
+              (refusal-of_whole whole ∙ ap (λ w. word_refusal f partial last (read w)) (sym bits) ∙ fine)
+              (there v partial stream limit f (omega (arith, whole, all, rises)));
+          mode = head.mode;
+          guard = head.guard;
+          word_is = ap read (sym bits) ∙ says;
+          fine = ap (word_refusal f partial last) (sym says) ∙ fine;
+          head_fine = head.fine;
+          frame_is = front ∙ is;
+          within = whole;
+          left_is = came.left_is ∙ ap Some (drop-drop n (v.starts f + v.head) stream) ∙ ap (λ m. Some (drop m stream)) end;
+        }
+
+    pub stopped-behind : (seat : Seat) (part : List ℕ) (left' : Option (List ℕ)) → length part ≡ frame_size said.0 → Stopped part rest left' → ReadFailed receiving.frames (λ f seat. StoppedIn receiving left' f) seat before now
+    stopped-behind seat part left' size stop =
+        let below = stop.below in
+        let end = head.end in
+        read-failed f (v.head + stop.taken) seat last known left' before now less (omega (arith, below, size, end)) so_far
+        (stop.left_is ∙ ap Some (drop-drop stop.taken (v.starts f + v.head) stream) ∙ ap (λ m. Some (drop m stream)) (let e : v.starts f + v.head + stop.taken ≡ v.starts f + (v.head + stop.taken) = omega arith in e))
+
   -- ---- the limit of frames
 
-  pub ended_at_limit : (last : Option (TmccFields × Bool)) (left left' before now : Option (List ℕ)) → Progress Plain partial stream limit limit last left before now
-      → drop (limit * frame_size mode) stream ≡ [] → left' ≡ Some [] → Finished receiving limit before now left'
+  pub ended_at_limit : (last : Option (TmccFields × Bool)) (left left' before now : Option (List ℕ)) → Progress v partial stream limit limit last left before now
+      → drop (v.starts limit) stream ≡ [] → left' ≡ Some [] → Finished receiving limit before now left'
   ended_at_limit last left left' before now so_far empty gone =
-      let rest = length-drop (limit * frame_size mode) stream in
-      let none : length (drop (limit * frame_size mode) stream) ≡ 0 = ap length empty in
-      finished Plain partial stream limit limit last left left' before now so_far (omega (arith, rest, none)) gone
+      let rest = length-drop (v.starts limit) stream in
+      let none : length (drop (v.starts limit) stream) ≡ 0 = ap length empty in
+      no_frame limit last left left' before now so_far (omega (arith, rest, none)) gone
 
-  pub too_long : (last : Option (TmccFields × Bool)) (left left' before now : Option (List ℕ)) → Progress Plain partial stream limit limit last left before now
-      → 0 < length (drop (limit * frame_size mode) stream) → left' ≡ Some (drop 1 (drop (limit * frame_size mode) stream)) → Refused receiving.frames (TookAtMost receiving left') TooLong before now
+  pub too_long : (last : Option (TmccFields × Bool)) (left left' before now : Option (List ℕ)) → Progress v partial stream limit limit last left before now
+      → 0 < length (drop (v.starts limit) stream) → left' ≡ Some (drop 1 (drop (v.starts limit) stream)) → Refused receiving.frames (TookAtMost receiving left') TooLong before now
   too_long last left left' before now so_far more one =
-      let rest = length-drop (limit * frame_size mode) stream in
-      refused Plain partial stream limit limit 1 TooLong last left left' before now so_far (refusal-limit Plain partial stream limit (omega (arith, rest, more))) (omega arith) one
+      let rest = length-drop (v.starts limit) stream in
+      let size = laid.size in
+      let rises = laid.rises limit in
+      refused v partial stream limit limit 1 TooLong last left left' before now so_far (refusal-limit v partial stream limit (omega (arith, rest, more, size))) (omega (arith, rises)) one
 
-  pub stopped_at_limit : (seat : Seat) (last : Option (TmccFields × Bool)) (left left' before now : Option (List ℕ)) → Progress Plain partial stream limit limit last left before now
-      → left' ≡ Some (drop (limit * frame_size mode) stream) → ReadFailed receiving.frames (λ f seat. StoppedIn receiving left' f) seat before now
+  pub stopped_at_limit : (seat : Seat) (last : Option (TmccFields × Bool)) (left left' before now : Option (List ℕ)) → Progress v partial stream limit limit last left before now
+      → left' ≡ Some (drop (v.starts limit) stream) → ReadFailed receiving.frames (λ f seat. StoppedIn receiving left' f) seat before now
   stopped_at_limit seat last left left' before now so_far same = record {
     frame = limit;
     passed = so_far.passed;
     written = so_far.written;
     account = record {
-      taken = limit * frame_size mode;
+      taken = v.starts limit;
       left_is = same;
       from = omega arith;
-      below = omega arith;
+      below = laid.rises limit;
       most = omega arith;
     };
   }

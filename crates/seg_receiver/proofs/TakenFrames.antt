@@ -1,5 +1,5 @@
 -- What the check of a frame says of the stream.
-use Rattle.std.proofs.Common.{◌≡◌, ℕ, ◌*◌, ◌≤◌, ◌<◌, Bool, List, [], ◌∷◌, length, drop, refl, subst, sym, inl, inr}
+use Rattle.std.proofs.Common.{◌≡◌, ℕ, ◌+◌, ◌*◌, ◌≤◌, ◌<◌, Bool, List, [], ◌∷◌, length, take, drop, refl, subst, sym, inl, inr}
 use Rattle.std.specs.Prelude.{Some, None, Ok, Err, IfOk, IfSome, if◌then◌else◌, not, ◌&&◌, ◌==◌}
 use Rattle.std.specs.Int.{from_bool}
 use Rattle.std.specs.declared.option.Option.{Option}
@@ -19,12 +19,13 @@ use Rattle.tmcc_word.specs.Reading.{read}
 use Rattle.coder_core.specs.SentCells.{frame_size}
 use Rattle.seg_receiver.specs.declared.fault.ReceiveFault.{ReceiveFault}
 use Rattle.seg_receiver.specs.declared.fault.ReceiveFault.TheVariants.{BadTmcc, Unannounced, NotPartial}
-use Rattle.seg_receiver.specs.CellStream.{stream_word, first_version}
-use Rattle.seg_receiver.specs.ReceiveRefusals.{expected, is_expected, behind_refusal, part_refusal, word_refusal}
+use Rattle.seg_receiver.specs.CellStream.{stream_word, View}
+use Rattle.seg_receiver.specs.ReceiveRefusals.{head_refusal, expected, is_expected, behind_refusal, part_refusal, word_refusal}
 use Rattle.seg_receiver.specs.ReceiveAnswers.{receive_kind, receive_command}
 use Rattle.seg_receiver.specs.FrameReading.{Came}
-use Rattle.seg_receiver.specs.EpochAnswers.{FrameRefused, FrameCheck, Progress, TakeAnswer}
+use Rattle.seg_receiver.specs.EpochAnswers.{FrameRefused, FrameCheck, HeadTaken, Progress, TakeAnswer}
 use Rattle.seg_receiver.proofs.ReceiveProgress.{nothing_came, frame-refused, taken_frame}
+use Rattle.seg_receiver.proofs.ViewLaws.{IsLaid}
 
 -- ---- the kinds of faults
 
@@ -50,30 +51,39 @@ word-kind : (f : ℕ) (partial : Bool) (before : Option (TmccFields × Bool)) (r
 word-kind f partial before (Err reason) = refl
 word-kind f partial before (Ok word) = either-kind (behind_refusal f before word) (part_refusal f partial word.0.now) (behind-kind f before word) (part-kind f partial word.0.now)
 
-pub refused-kind : (mode : Mode) (partial : Bool) (f : ℕ) (before : Option (TmccFields × Bool)) (frame : List ℕ) (count : ℕ) (fault : ReceiveFault) → FrameRefused mode partial f before frame count fault → OfFrame fault
-refused-kind mode partial f before frame count fault (inl cut) = subst OfFrame (sym cut.2) refl
-refused-kind mode partial f before frame count fault (inr bad) = subst (λ o. IfSome o OfFrame) bad.1 (word-kind f partial before (read (stream_word mode frame 0)))
+head-kind : (f : ℕ) (bad : Option ℕ) → IfSome (head_refusal f bad) OfFrame
+head-kind f None = tt
+head-kind f (Some byte) = refl
+
+pub bad_head-kind : (f : ℕ) (bad : Option ℕ) (fault : ReceiveFault) → head_refusal f bad ≡ Some fault → OfFrame fault
+bad_head-kind f bad fault is = subst (λ o. IfSome o OfFrame) is (head-kind f bad)
+
+pub refused-kind : (mode : Mode) (head : ℕ) (partial : Bool) (f : ℕ) (before : Option (TmccFields × Bool)) (frame : List ℕ) (count : ℕ) (fault : ReceiveFault) → FrameRefused mode head partial f before frame count fault → OfFrame fault
+refused-kind mode head partial f before frame count fault (inl cut) = subst OfFrame (sym cut.2) refl
+refused-kind mode head partial f before frame count fault (inr bad) = subst (λ o. IfSome o OfFrame) bad.1 (word-kind f partial before (read (stream_word mode frame 0)))
 
 -- ---- what a frame says
 
-pub take_answer : (mode : Mode) (guard : Guard) (partial : Bool) (stream : List ℕ) (limit f n : ℕ) (last : Option (TmccFields × Bool)) (frame : List ℕ) (left left' before now : Option (List ℕ)) (result : Result (Option (TmccFields × Bool)) ReceiveFault)
-    → f < limit → length frame ≡ frame_size mode → Progress (first_version mode guard stream) partial stream limit f last left before now → Came frame (drop (f * frame_size mode) stream) left' n → FrameCheck mode partial f last frame n result
-    → TakeAnswer (first_version mode guard stream) partial stream limit f last frame before now left' result
-take_answer mode guard partial stream limit f n last frame left left' before now (Ok None) less size so_far came check =
-    nothing_came mode guard partial stream limit f n last frame left left' before now size check so_far came
-take_answer mode guard partial stream limit f n last frame left left' before now (Ok (Some word)) less size so_far came check =
-    taken_frame mode guard partial stream limit f n last word frame left left' before now less size check.0 check.1 check.2 so_far came
-take_answer mode guard partial stream limit f n last frame left left' before now (Err fault) less size so_far came check =
-    refused_answer receive_kind (receive_command (first_version mode guard stream) partial stream limit) before now left' fault (refused-kind mode partial f last frame n fault check)
-    (frame-refused mode guard partial stream limit f n fault last frame left left' before now less size so_far came check)
+pub take_answer : (v : View) (stream : List ℕ) (laid : IsLaid v stream) (partial : Bool) (limit f : ℕ) (said : Mode × Guard) (last : Option (TmccFields × Bool)) (known left before now : Option (List ℕ)) → f < limit
+    → Progress v partial stream limit f last known before now → HeadTaken v stream f said left
+    → (n : ℕ) (frame part : List ℕ) (left' : Option (List ℕ)) (result : Result (Option (TmccFields × Bool)) ReceiveFault) → length part ≡ frame_size said.0 → take (frame_size said.0) frame ≡ part
+    → Came part (drop (v.starts f + v.head) stream) left' n → FrameCheck said.0 v.head partial f last part n result → TakeAnswer v partial stream limit f said last frame before now left' result
+take_answer v stream laid partial limit f said last known left before now less so_far head n frame part left' (Ok None) size front came check =
+    nothing_came v stream laid partial limit f said last known left before now less so_far head n part left' size check came
+take_answer v stream laid partial limit f said last known left before now less so_far head n frame part left' (Ok (Some word)) size front came check =
+    taken_frame v stream laid partial limit f said last known left before now less so_far head n word frame part left' size front check.0 check.1 check.2 came
+take_answer v stream laid partial limit f said last known left before now less so_far head n frame part left' (Err fault) size front came check =
+    refused_answer receive_kind (receive_command v partial stream limit) before now left' fault (refused-kind said.0 v.head partial f last part n fault check)
+    (frame-refused v stream laid partial limit f said last known left before now less so_far head n fault part left' size came check)
 
-pub take_cause : (mode : Mode) (partial : Bool) (f n : ℕ) (last : Option (TmccFields × Bool)) (frame : List ℕ) (shelf shelf' : Cause → ℕ) (result : Result (Option (TmccFields × Bool)) ReceiveFault) → FrameCheck mode partial f last frame n result → shelf' ≡ shelf → ReadingCause receive_kind shelf shelf' result
-take_cause mode partial f n last frame shelf shelf' (Ok o) check kept = kept
-take_cause mode partial f n last frame shelf shelf' (Err fault) check kept = refused_reading (Option (TmccFields × Bool)) receive_kind shelf shelf' fault (refused-kind mode partial f last frame n fault check) kept
+pub take_cause : (mode : Mode) (head : ℕ) (partial : Bool) (f n : ℕ) (last : Option (TmccFields × Bool)) (frame : List ℕ) (shelf shelf' : Cause → ℕ) (result : Result (Option (TmccFields × Bool)) ReceiveFault)
+    → FrameCheck mode head partial f last frame n result → shelf' ≡ shelf → ReadingCause receive_kind shelf shelf' result
+take_cause mode head partial f n last frame shelf shelf' (Ok o) check kept = kept
+take_cause mode head partial f n last frame shelf shelf' (Err fault) check kept = refused_reading (Option (TmccFields × Bool)) receive_kind shelf shelf' fault (refused-kind mode head partial f last frame n fault check) kept
 
 -- what follows where all of a frame came holds of a frame that is taken
-pub if_taken : (mode : Mode) (partial : Bool) (f : ℕ) (before : Option (TmccFields × Bool)) (frame : List ℕ) (count : ℕ) (result : Result (Option (TmccFields × Bool)) ReceiveFault) (P : Type 0)
-    → (length frame ≤ count → P) → FrameCheck mode partial f before frame count result → IfOk result (λ o. IfSome o (λ word. P))
-if_taken mode partial f before frame count (Ok None) P follows check = tt
-if_taken mode partial f before frame count (Ok (Some word)) P follows check = follows check.0
-if_taken mode partial f before frame count (Err fault) P follows check = tt
+pub if_taken : (mode : Mode) (head : ℕ) (partial : Bool) (f : ℕ) (before : Option (TmccFields × Bool)) (frame : List ℕ) (count : ℕ) (result : Result (Option (TmccFields × Bool)) ReceiveFault) (P : Type 0)
+    → (length frame ≤ count → P) → FrameCheck mode head partial f before frame count result → IfOk result (λ o. IfSome o (λ word. P))
+if_taken mode head partial f before frame count (Ok None) P follows check = tt
+if_taken mode head partial f before frame count (Ok (Some word)) P follows check = follows check.0
+if_taken mode head partial f before frame count (Err fault) P follows check = tt

@@ -1,6 +1,6 @@
 //! The heads of the frames of a stream of cells.
 
-ghost use Rattle.std.specs.Prelude.{◌≡◌, ℕ, List, ◌≤◌, ◌<◌, Ok, Some, None, true, false, IfOk, IfSome, MatchResult};
+ghost use Rattle.std.specs.Prelude.{◌≡◌, ℕ, Bool, List, ◌≤◌, ◌<◌, Ok, Some, None, true, false, IfOk, IfSome, MatchResult};
 ghost use Rattle.std.specs.declared.option.Option.{Option};
 ghost use Rattle.isdbt_base.specs.Heads.{head_read};
 ghost use Rattle.edge_io.specs.declared.shelf.Seat.TheVariants as seats;

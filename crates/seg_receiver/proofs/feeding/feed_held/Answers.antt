@@ -2,6 +2,7 @@ use Rattle.std.proofs.Common.{◌≡◌, ◌+◌, ◌*◌, ◌-◌, ℕ, List, l
 use Rattle.isdbt_base.specs.Numbers.{carriers}
 use Rattle.seg_receiver.specs.CellStream.{symbol_size}
 use Rattle.seg_receiver.specs.Receiver.{mode_of, IsSymbolOf}
+use Rattle.seg_receiver.proofs.FrameParts.{cells-size}
 use Rattle.seg_receiver.proofs.SymbolPlaces.{is-symbol}
 use Rattle.seg_receiver.proofs.feeding.feed_held.Goals as goal
 
@@ -16,7 +17,7 @@ loop-k-init c = record {
 
 pub symbol-requires-clause-size : goal.symbol-requires-clause-size
 symbol-requires-clause-size c =
-    c.read_cells.auto.cells ∙ c.loop-k.auto.cells ∙ c.requires.room ∙ ap (λ m. 13 * carriers m) (sym (c.loop-k.invariant.mode ∙ c.requires.mode))
+    c.read_cells.auto.cells ∙ c.loop-k.auto.cells ∙ cells-size c.args.cells.now c.carriers.result (carriers c.args.mode) c.carriers.ensures.value c.requires.room ∙ ap (λ m. 13 * carriers m) (sym (c.loop-k.invariant.mode ∙ c.requires.mode))
 
 pub symbol-requires-clause-few : goal.symbol-requires-clause-few
 symbol-requires-clause-few c = (let e = c.loop-k.invariant.symbols in let less = c.loop-k-test.true in omega (arith, e, less))
@@ -36,7 +37,7 @@ loop-k-preserved c = record {
   stands = λ cell start h stands shows. (
       let mode = c.loop-k.invariant.mode ∙ c.requires.mode in
       let part = part-of c.args.frame.now c.loop-k.k c.symbol_start-from.result c.symbol_size-size.result (symbol_size c.args.mode) c.symbol_start-from.ensures.value c.symbol_size-size.ensures.value in
-      let size : length c.read_cells.new.cells ≡ 13 * carriers c.args.mode = c.read_cells.auto.cells ∙ c.loop-k.auto.cells ∙ c.requires.room in
+      let size : length c.read_cells.new.cells ≡ 13 * carriers c.args.mode = c.read_cells.auto.cells ∙ c.loop-k.auto.cells ∙ cells-size c.args.cells.now c.carriers.result (carriers c.args.mode) c.carriers.ensures.value c.requires.room in
       let is = is-symbol c.args.mode cell (start + h) c.loop-k.k c.args.frame.now _ c.read_cells.new.cells c.loop-k-test.true size part c.read_cells.ensures shows in
       c.symbol.ensures.state cell start h (c.loop-k.invariant.stands cell start h stands shows)
       (subst (λ n. IsSymbolOf (mode_of c.loop-k.receiver) cell (start + h) n c.read_cells.new.cells) (sym c.loop-k.invariant.symbols)

@@ -1,47 +1,54 @@
-use Rattle.std.proofs.Common.{◌≡◌, ℕ, ◌+◌, ◌*◌, ◌<◌, List, false, length, drop, ◌∙◌, subst, sym, arith}
-use Rattle.std.specs.declared.option.Option.{Option}
-use Rattle.isdbt_base.specs.declared.kinds.Guard.{Guard}
+use Rattle.std.proofs.Common.{◌≡◌, ℕ, ◌+◌, ◌*◌, List, false, [], length, drop, ap, sym, ◌∙◌, subst, arith}
+use Rattle.std.proofs.lemmas.List.{take_at}
+use Rattle.isdbt_base.specs.Numbers.{carriers}
 use Rattle.edge_io.specs.declared.shelf.Seat.TheVariants as seats
 use Rattle.coder_core.specs.SentCells.{frame_size}
-use Rattle.seg_receiver.specs.CellStream.{stream_cell, first_version}
+use Rattle.seg_receiver.specs.CellStream.{view_of}
 use Rattle.seg_receiver.specs.FrameReading.{ShowsFrame}
 use Rattle.seg_receiver.specs.Receiver.{symbols_of, StandsFor}
-use Rattle.seg_receiver.specs.EpochAnswers.{Progress}
-use Rattle.seg_receiver.proofs.SymbolPlaces.{shows-rest}
-use Rattle.seg_receiver.proofs.ReceiveProgress.{read-failed}
+use Rattle.seg_receiver.specs.EpochAnswers.{HeadTaken}
+use Rattle.seg_receiver.proofs.FrameParts.{front-size, cells-size}
+use Rattle.seg_receiver.proofs.ReceiveProgress.{stopped-behind}
 use Rattle.seg_receiver.proofs.TakenFrames.{take_answer, take_cause, if_taken}
+use Rattle.seg_receiver.proofs.ViewLaws.{laid}
 use Rattle.seg_receiver.proofs.frames.read_further.Goals as goal
 
 pub returns-clause-answer : goal.returns-clause-answer
-returns-clause-answer g c = λ guard stream limit first now below so_far.
-    let size : length c.feed_read.new.frame ≡ frame_size c.args.mode = c.feed_read.auto.frame ∙ c.requires.size in
-    take_answer c.args.mode guard false stream limit c.args.number c.in-Ok.count c.args.before.now c.feed_read.new.frame _ _ first now c.word_read.result below size so_far
-    (c.in-Ok.ensures.answer _ so_far.left_is) c.word_read.ensures
+returns-clause-answer g c = λ stream limit known first now below so_far head.
+    let form = c.args.frame.form in
+    let part = c.feed_read.new.frame in
+    let size : length part ≡ frame_size c.args.frame.mode = front-size c.args.buffer.now part c.symbol_size.result (frame_size c.args.frame.mode) (ap (λ n. 204 * n) c.symbol_size.ensures.value) c.requires.size c.feed_read.auto.frame in
+    take_answer (view_of form stream) stream (laid form stream) false limit c.args.frame.number (c.args.frame.mode, c.args.frame.guard) c.args.before.now known _ first now below so_far head
+    c.in-Ok.count _ part _ c.word_read.result size (take_at part (drop (204 * c.symbol_size.result) c.args.buffer.now) (frame_size c.args.frame.mode) size) (c.in-Ok.ensures.answer _ head.left_is) (c.word_read.ensures stream)
 
 pub returns-clause-state : goal.returns-clause-state
 returns-clause-state g c =
-    if_taken c.args.mode false c.args.number c.args.before.now c.feed_read.new.frame c.in-Ok.count c.word_read.result
-    ((guard : Guard) (stream : List ℕ) (limit : ℕ) (first now : Option (List ℕ)) → c.args.number < limit
-    → Progress (first_version c.args.mode guard stream) false stream limit c.args.number c.args.before.now (g.H.Shelf.left c.args.shelf.now seats.In) first now
-    → (start h : ℕ) → start + h ≡ c.args.number → StandsFor c.args.receiver.now (stream_cell c.args.mode stream) start h → StandsFor c.feed_read.new.receiver (stream_cell c.args.mode stream) start h)
-    (λ whole guard stream limit first now below so_far start h is stands.
+    if_taken c.args.frame.mode (view_of c.args.frame.form []).head false c.args.frame.number c.args.before.now c.feed_read.new.frame c.in-Ok.count c.word_read.result
+    ((stream : List ℕ) → HeadTaken (view_of c.args.frame.form stream) stream c.args.frame.number (c.args.frame.mode, c.args.frame.guard) (g.H.Shelf.left c.args.shelf.now seats.In)
+    → (start h : ℕ) → start + h ≡ c.args.frame.number → StandsFor c.args.receiver.now (view_of c.args.frame.form stream).cell start h → StandsFor c.feed_read.new.receiver (view_of c.args.frame.form stream).cell start h)
+    (λ whole stream head start h is stands.
+    let v = view_of c.args.frame.form stream in
     let most = c.in-Ok.ensures.most in
     let full : c.in-Ok.count ≡ length c.feed_read.new.frame = omega (arith, whole, most) in
-    let rest = drop (c.args.number * frame_size c.args.mode) stream in
-    c.in-Ok.ensures.state full rest so_far.left_is (stream_cell c.args.mode stream) start h stands
-    (subst (λ f. ShowsFrame c.args.mode (stream_cell c.args.mode stream) f rest) (sym is) (shows-rest c.args.mode stream c.args.number)))
-    c.word_read.ensures
+    let rest = drop (v.starts c.args.frame.number + v.head) stream in
+    let shows = subst (λ m. ShowsFrame m v.cell c.args.frame.number rest) head.mode ((laid c.args.frame.form stream).shows c.args.frame.number) in
+    c.in-Ok.ensures.state full rest head.left_is v.cell start h stands (subst (λ f. ShowsFrame c.args.frame.mode v.cell f rest) (sym is) shows))
+    (c.word_read.ensures [])
 
 pub returns-clause-symbols : goal.returns-clause-symbols
 returns-clause-symbols g c =
-    if_taken c.args.mode false c.args.number c.args.before.now c.feed_read.new.frame c.in-Ok.count c.word_read.result (symbols_of c.feed_read.new.receiver ≡ 204)
+    if_taken c.args.frame.mode (view_of c.args.frame.form []).head false c.args.frame.number c.args.before.now c.feed_read.new.frame c.in-Ok.count c.word_read.result (symbols_of c.feed_read.new.receiver ≡ 204)
     (λ whole. (let most = c.in-Ok.ensures.most in c.in-Ok.ensures.symbols (let full : c.in-Ok.count ≡ length c.feed_read.new.frame = omega (arith, whole, most) in full)))
-    c.word_read.ensures
+    (c.word_read.ensures [])
 
 pub returns-clause-cause : goal.returns-clause-cause
-returns-clause-cause g c = take_cause c.args.mode false c.args.number c.in-Ok.count c.args.before.now c.feed_read.new.frame _ _ c.word_read.result c.word_read.ensures c.in-Ok.ensures.cause.kept
+returns-clause-cause g c =
+    take_cause c.args.frame.mode (view_of c.args.frame.form []).head false c.args.frame.number c.in-Ok.count c.args.before.now c.feed_read.new.frame _ _ c.word_read.result (c.word_read.ensures []) c.in-Ok.ensures.cause.kept
 
 pub returns-in-Err-clause-answer : goal.returns-in-Err-clause-answer
-returns-in-Err-clause-answer g c = λ guard stream limit first now below so_far.
-    let size : length c.feed_read.new.frame ≡ frame_size c.args.mode = c.feed_read.auto.frame ∙ c.requires.size in
-    read-failed c.args.mode guard false stream limit c.args.number seats.In c.args.before.now c.feed_read.new.frame _ _ first now below size so_far (c.in-Err.ensures.answer _ so_far.left_is)
+returns-in-Err-clause-answer g c = λ stream limit known first now below so_far head.
+    let form = c.args.frame.form in
+    let part = c.feed_read.new.frame in
+    let size : length part ≡ frame_size c.args.frame.mode = front-size c.args.buffer.now part c.symbol_size.result (frame_size c.args.frame.mode) (ap (λ n. 204 * n) c.symbol_size.ensures.value) c.requires.size c.feed_read.auto.frame in
+    stopped-behind (view_of form stream) stream (laid form stream) false limit c.args.frame.number (c.args.frame.mode, c.args.frame.guard) c.args.before.now known _ first now below so_far head seats.In part _ size
+    (c.in-Err.ensures.answer _ head.left_is)
