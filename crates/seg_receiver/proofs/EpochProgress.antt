@@ -169,7 +169,13 @@ module _ (v : View) (partial : Bool) (stream : List ℕ) (limit : ℕ) where
       let fits' = read-fits (v.word f) word taken.word_is in
       setting-stays f partial last word fits.now fits'.now taken.fine other
 
-  -- ---- the head of a further frame
+  -- ---- heads
+
+  -- the head of an epoch's first frame may say any mode and guard interval
+  pub first_due : (f : ℕ) → epoch_start v.word f ≡ f → DueIn v f None
+  unfolding epoch_head
+  first_due zero begun = refl
+  first_due (suc f) begun = rw (eq-eqb (epoch_start v.word (suc f)) (suc f) begun) refl
 
   -- the next frame doesn't begin an epoch
   goes_on : (start f : ℕ) (said : Mode × Guard) (last : TmccFields × Bool) (known before mid : Option (List ℕ)) → (so_far : InEpoch v partial stream limit start f said last known before mid) → (last.0.countdown ≡ 0 → ⊥) → (epoch_start v.word (suc so_far.last) ≡ suc so_far.last → ⊥)

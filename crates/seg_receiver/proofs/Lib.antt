@@ -1,5 +1,6 @@
 pub mod AcceptedStream
 pub mod BroadcastSlots
+pub mod BufferRoom
 pub mod CleanDelivered
 pub mod CodedInput
 pub mod DecoderParts

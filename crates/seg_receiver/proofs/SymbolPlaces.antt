@@ -65,6 +65,23 @@ shows-rest mode stream f = record {
       ∙ sym (stream_cell-at mode stream f k segment carrier));
 }
 
+-- bytes that begin with the symbols of a frame show it where those behind which they were taken do
+pub shows-front : (mode : Mode) (cell : FrameCells) (f : ℕ) (rest bytes : List ℕ) → take (frame_size mode) bytes ≡ take (frame_size mode) rest → ShowsFrame mode cell f rest → ShowsFrame mode cell f bytes
+shows-front mode cell f rest bytes same shows = record {
+  each = λ k segment carrier l s c. (
+      let n = segment * carriers mode + carrier in
+      let at = symbol_start mode 0 k + 1 + 2 * n in
+      let place : n < 13 * carriers mode = (let e = mul-add-lt segment (carriers mode) carrier 13 s c in omega (arith, e)) in
+      let end = symbol-end mode k (1 + 2 * n + 1) l (omega (arith, place)) in
+      let byte : (xs : List ℕ) (i : ℕ) → i < frame_size mode → slice_index xs i ≡ slice_index (take (frame_size mode) xs) i = λ xs i less. sym (get_or-take (frame_size mode) xs i 0 less) in
+      let first = byte bytes at (omega (arith, end)) ∙ ap (λ xs. slice_index xs at) same ∙ sym (byte rest at (omega (arith, end))) in
+      let second = byte bytes (at + 1) (omega (arith, end)) ∙ ap (λ xs. slice_index xs (at + 1)) same ∙ sym (byte rest (at + 1) (omega (arith, end))) in
+      stream_cell-at mode bytes 0 k segment carrier
+      ∙ ap (λ a. record { i = cast_signed w8 a; q = cast_signed w8 (slice_index bytes (at + 1)) }) first
+      ∙ ap (λ b. record { i = cast_signed w8 (slice_index rest at); q = cast_signed w8 b }) second
+      ∙ sym (stream_cell-at mode rest 0 k segment carrier) ∙ shows.each k segment carrier l s c);
+}
+
 -- so does the frame alone
 pub shows-frame : (mode : Mode) (stream frame : List ℕ) (f : ℕ) → frame ≡ take (frame_size mode) (drop (f * frame_size mode) stream) → ShowsFrame mode (stream_cell mode stream) f frame
 shows-frame mode stream frame f is = record {
