@@ -1,5 +1,5 @@
 -- The buffers have room for each frame that a stream of their version can have.
-use Rattle.std.proofs.Common.{◌≡◌, ◌*◌, ◌≤◌, arith, subst, sym, ap, vec_len}
+use Rattle.std.proofs.Common.{◌≡◌, ◌*◌, ◌≤◌, arith, ap, vec_len}
 use Rattle.isdbt_base.specs.declared.kinds.Mode.{Mode}
 use Rattle.isdbt_base.specs.declared.kinds.Mode.TheVariants.{M1, M2, M3}
 use Rattle.isdbt_base.specs.declared.kinds.Guard.{Guard}

@@ -1,5 +1,5 @@
 -- A head that isn't refused says what it must repeat.
-use Rattle.std.proofs.Common.{◌≡◌, ℕ, Bool, true, false, List, refl, ap, sym, ◌∙◌, eqb-true}
+use Rattle.std.proofs.Common.{◌≡◌, ℕ, Bool, true, false, List, refl, ap, ◌∙◌, eqb-true}
 use Rattle.std.specs.Prelude.{Some, None, Ok, Err, not, ◌==◌, if◌then◌else◌, slice_index}
 use Rattle.std.specs.declared.option.Option.{Option}
 use Rattle.std.specs.declared.result.Result.{Result}

@@ -51,7 +51,7 @@ module _ (stream : List ℕ) (limit f : ℕ) where
       let within = stop.within in
       let inside = so_far.within in
       let rest = length-drop (second_start stream f) stream in
-      let below : second_start stream f + stop.taken < second_start stream (f + 1) = elim ((laid V2 stream).past f) [ | inl fits ↦ omega (arith, fits, short, size) | inr past ↦ omega (arith, past, within, rest, inside) ] in
+      let below : second_start stream f + stop.taken < second_start stream (f + 1) = elim ((laid V2 stream).past f) [ inl fits ↦ omega (arith, fits, short, size) | inr past ↦ omega (arith, past, within, rest, inside) ] in
       read-failed (second_version stream) stream (laid V2 stream) false limit f stop.taken seats.In last left left' before now less below so_far (stop.left_is ∙ ap Some (drop-drop stop.taken (second_start stream f) stream))
 
   -- all came

@@ -1,5 +1,5 @@
 -- No head of a stream that is near the cells of a plan is refused.
-use Rattle.std.proofs.Common.{◌≡◌, ◌≢◌, ℕ, zero, suc, ◌+◌, ◌≤◌, ◌<◌, Bool, true, false, List, length, take, refl, arith, ap, sym, ◌∙◌, subst, inl, inr, length-drop}
+use Rattle.std.proofs.Common.{◌≡◌, ℕ, zero, suc, ◌+◌, ◌≤◌, ◌<◌, Bool, true, false, List, length, take, refl, arith, ap, sym, ◌∙◌, inl, inr, length-drop}
 use Rattle.std.specs.Prelude.{Some, None, Ok, Err, ◌==◌, slice_index, if◌then◌else◌}
 use Rattle.std.specs.declared.option.Option.{Option}
 use Rattle.std.specs.declared.result.Result.{Result}
@@ -110,10 +110,10 @@ module _ (stream : List ℕ) (p : Schedule) (frames : FramePackets) (count : ℕ
       let begun = epoch_start-plan p (second_word stream) (suc g) plan (λ k l. near.words k (omega (arith, h, l))) in
       let le = epoch_start-le p (suc g) in
       let within : (at_frame p (suc g)).start ≤ g =
-          elim (eqb_tells (at_frame p (suc g)).start (suc g)) [
-            | inl same ↦ absurd (other (begun ∙ same.1))
-            | inr differs ↦ (let apart = differs.1 in let e : ((at_frame p (suc g)).start ≤ g) = elim (cases_lt (at_frame p (suc g)).start (suc g)) [ | inl less ↦ omega (arith, less) | inr over ↦ absurd (apart (omega (arith, over, le))) ] in e)
-          ] in
+      elim (eqb_tells (at_frame p (suc g)).start (suc g)) [
+        | inl same ↦ absurd (other (begun ∙ same.1))
+        | inr differs ↦ (let apart = differs.1 in let e : ((at_frame p (suc g)).start ≤ g) = elim (cases_lt (at_frame p (suc g)).start (suc g)) [ inl less ↦ omega (arith, less) | inr over ↦ absurd (apart (omega (arith, over, le))) ] in e)
+      ] in
       let epoch = same_epoch p g (suc g) plan (omega arith) within in
       (near.modes (suc g) h ∙ sym epoch.mode ∙ sym (near.modes g (omega (arith, h))), near.guards (suc g) h ∙ sym epoch.guard ∙ sym (near.guards g (omega (arith, h))))
 

@@ -1,5 +1,5 @@
 -- Views that show what is sent of a plan, in either version of the stream.
-use Rattle.std.proofs.Common.{◌≡◌, ℕ, zero, suc, ◌+◌, ◌-◌, ◌*◌, ◌≤◌, ◌<◌, List, [], ◌++◌, length, take, drop, refl, arith, ap, sym, ◌∙◌, subst, Ok, true, false, Err, length-append, length-drop, inl, inr}
+use Rattle.std.proofs.Common.{◌≡◌, ℕ, zero, suc, ◌+◌, ◌-◌, ◌*◌, ◌≤◌, ◌<◌, List, ◌++◌, length, take, drop, refl, arith, ap, sym, ◌∙◌, subst, Ok, true, false, Err, length-append, length-drop}
 use Rattle.std.specs.declared.result.Result.{Result}
 use Rattle.std.proofs.lemmas.List.{take-take, drop-take}
 use Rattle.isdbt_base.specs.declared.kinds.Mode.{Mode}
@@ -21,6 +21,7 @@ use Rattle.seg_receiver.specs.Delivered.{CanCarry, CanCarryPartial}
 use Rattle.seg_receiver.proofs.RangeCuts.{take-front, drop-front, cut_at}
 use Rattle.seg_receiver.proofs.StreamLaws.{length-frame_cells, frame-word, frame-cell}
 use Rattle.seg_receiver.proofs.SymbolPlaces.{shows-frame, word-frame}
+use Rattle.seg_receiver.proofs.ViewLaws.{laid, starts-le, start-next}
 
 -- a view shows the first frames of a plan and no more: each in the plan's mode, with its word and with its cells
 pub record ShowsPlan (v : View) (p : Schedule) (frames : FramePackets) (count : ℕ) : Type 0 where
@@ -186,37 +187,22 @@ module _ (p : Schedule) (frames : FramePackets) (count : ℕ) where
 
 -- ---- frames in a row
 
--- a frame begins behind the one before
-starts-rise : (stream : List ℕ) (f : ℕ) → second_start stream f ≤ second_start stream (suc f)
-unfolding second_start
-starts-rise stream f = omega arith
-
-later-than : (stream : List ℕ) (f n : ℕ) → second_start stream f ≤ second_start stream (f + n)
-later-than stream f zero = (let e = ap (second_start stream) (let e' : f + 0 ≡ f = omega arith in e') in omega (arith, e))
-later-than stream f (suc n) =
-    let so_far = later-than stream f n in
-    let rises = starts-rise stream (f + n) in
-    let e = ap (second_start stream) (let e' : f + suc n ≡ suc (f + n) = omega arith in e') in
-    omega (arith, so_far, rises, e)
-
 -- where the stream ends with a frame, no frame before it begins past its end
-later : (stream : List ℕ) (f count : ℕ) → f < count → length stream ≡ second_start stream count → second_start stream (suc f) ≤ length stream
+later : (stream : List ℕ) (f count : ℕ) → f < count → length stream ≡ second_start stream count → second_start stream (f + 1) ≤ length stream
 later stream f count less whole =
-    let from = later-than stream (suc f) (count - suc f) in
-    let e = ap (second_start stream) (let e' : suc f + (count - suc f) ≡ count = omega (arith, less) in e') in
-    omega (arith, from, e, whole)
+    let from = starts-le (second_version stream) stream (f + 1) count (laid V2 stream) (omega (arith, less)) in
+    omega (arith, from, whole)
 
-second-row : (stream : List ℕ) (f : ℕ) (said : Result (Mode × Guard) HeadFault) → head_said (bytes_from stream f) ≡ said → second_start stream (suc f) ≤ length stream
+second-row : (stream : List ℕ) (f : ℕ) (said : Result (Mode × Guard) HeadFault) → head_said (bytes_from stream f) ≡ said → second_start stream (f + 1) ≤ length stream
     → second_start stream (f + 1) ≡ second_start stream f + (8 + frame_size (mode_said (head_said (bytes_from stream f))))
-unfolding second_start
 second-row stream f (Ok h) is within =
     let rest = bytes_from stream f in
-    ap (second_start stream) (let e : f + 1 ≡ suc f = omega arith in e)
+    start-next stream f
     ∙ ap (λ said. second_start stream f + bytes_said (length rest) said) is
     ∙ ap (λ said. second_start stream f + (8 + frame_size (mode_said said))) (sym is)
 second-row stream f (Err fault) is within =
     let rest = bytes_from stream f in
-    let next : second_start stream (suc f) ≡ second_start stream f + (length rest + 1) = ap (λ said. second_start stream f + bytes_said (length rest) said) is in
+    let next : second_start stream (f + 1) ≡ second_start stream f + (length rest + 1) = start-next stream f ∙ ap (λ said. second_start stream f + bytes_said (length rest) said) is in
     let size = length-drop (second_start stream f) stream in
     absurd (omega (arith, next, size, within))
 

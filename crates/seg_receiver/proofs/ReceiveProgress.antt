@@ -1,6 +1,6 @@
 -- How far the frames of a stream of cells have come.
 use Rattle.std.proofs.Common.{◌≡◌, ℕ, suc, ◌+◌, ◌-◌, ◌*◌, ◌≤◌, ◌<◌, Bool, true, false, List, [], ◌∷◌, length, take, drop, refl, ap, sym, ◌∙◌, arith, inl, inr, length-drop, drop-drop}
-use Rattle.std.specs.Prelude.{Some, None, Ok, ◌==◌, nat_lt, if◌then◌else◌}
+use Rattle.std.specs.Prelude.{Some, None, Ok, ◌==◌, if◌then◌else◌}
 use Rattle.std.specs.declared.option.Option.{Option}
 use Rattle.std.proofs.lemmas.Bool.{ne_eqb, eq-eqb, lt-ltb, le-ltb}
 use Rattle.std.proofs.lemmas.List.{drop_all, take_all}
@@ -181,7 +181,7 @@ module _ (v : View) (stream : List ℕ) (laid : IsLaid v stream) (partial : Bool
       let size = laid.size in
       let within = so_far.within in
       let over' : v.size - v.starts f ≡ n = ap (λ m. m - v.starts f) size ∙ over in
-      let most : v.starts f + n ≤ v.starts (f + 1) = elim (laid.past f) [ | inl fits ↦ omega (arith, fits, short) | inr past ↦ omega (arith, past, over, within, some) ] in
+      let most : v.starts f + n ≤ v.starts (f + 1) = elim (laid.past f) [ inl fits ↦ omega (arith, fits, short) | inr past ↦ omega (arith, past, over, within, some) ] in
       refused v partial stream limit f n (Truncated seats.In n) last left left' before now so_far
       (refusal-in_head v partial stream limit f n less (omega (arith, size, over, some)) (omega (arith, size, over, short)) over') most rest
 
@@ -190,7 +190,7 @@ module _ (v : View) (stream : List ℕ) (laid : IsLaid v stream) (partial : Bool
       → Progress v partial stream limit f last left before now → left' ≡ Some (drop v.head (drop (v.starts f) stream)) → Refused receiving.frames (TookAtMost receiving left') fault before now
   bad_head f fault last left left' before now less some whole is so_far rest =
       let size = laid.size in
-      let most : v.starts f + v.head ≤ v.starts (f + 1) = elim (laid.past f) [ | inl fits ↦ fits | inr past ↦ omega (arith, past, whole) ] in
+      let most : v.starts f + v.head ≤ v.starts (f + 1) = elim (laid.past f) [ inl fits ↦ fits | inr past ↦ omega (arith, past, whole) ] in
       refused v partial stream limit f v.head fault last left left' before now so_far
       (refusal-head v partial stream limit f fault less (omega (arith, size, whole, some)) (omega (arith, size, whole)) is) most rest
 

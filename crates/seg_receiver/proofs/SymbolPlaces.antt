@@ -3,7 +3,7 @@ use Rattle.std.proofs.Common.{◌≡◌, ℕ, ◌+◌, ◌*◌, ◌%◌, ◌<◌
 use Rattle.std.specs.Prelude.{slice_index, ◌==◌}
 use Rattle.std.specs.Int.{w8, cast_signed}
 use Rattle.std.proofs.lemmas.Nat.{mul-add-lt}
-use Rattle.std.proofs.lemmas.List.{get_or-take, get_or-drop}
+use Rattle.std.proofs.lemmas.List.{get_or-take, get_or-drop, take-take}
 use Rattle.isdbt_base.specs.declared.kinds.Mode.{Mode}
 use Rattle.isdbt_base.specs.Numbers.{carriers}
 use Rattle.isdbt_base.proofs.RangeLaws.{map-same}
@@ -84,18 +84,9 @@ shows-front mode cell f rest bytes same shows = record {
 
 -- so does the frame alone
 pub shows-frame : (mode : Mode) (stream frame : List ℕ) (f : ℕ) → frame ≡ take (frame_size mode) (drop (f * frame_size mode) stream) → ShowsFrame mode (stream_cell mode stream) f frame
-shows-frame mode stream frame f is = record {
-  each = λ k segment carrier l s c. (
-      let from = f * frame_size mode in
-      let n = segment * carriers mode + carrier in
-      let at = symbol_start mode 0 k + 1 + 2 * n in
-      let place : n < 13 * carriers mode = (let e = mul-add-lt segment (carriers mode) carrier 13 s c in omega (arith, e)) in
-      let end = symbol-end mode k (1 + 2 * n + 1) l (omega (arith, place)) in
-      stream_cell-at mode frame 0 k segment carrier
-      ∙ cell-in_piece stream frame from (frame_size mode) at is (omega (arith, end))
-      ∙ ap (cell_at stream) (let e : from + at ≡ symbol_start mode f k + 1 + 2 * n = omega arith in e)
-      ∙ sym (stream_cell-at mode stream f k segment carrier));
-}
+shows-frame mode stream frame f is =
+    let rest = drop (f * frame_size mode) stream in
+    shows-front mode (stream_cell mode stream) f rest frame (ap (take (frame_size mode)) is ∙ take-take (frame_size mode) (frame_size mode) rest (omega arith)) (shows-rest mode stream f)
 
 -- and its word is that of the frame
 pub word-frame : (mode : Mode) (stream frame : List ℕ) (f : ℕ) → frame ≡ take (frame_size mode) (drop (f * frame_size mode) stream) → stream_word mode frame 0 ≡ stream_word mode stream f

@@ -1,5 +1,5 @@
 -- What the check of a frame says of the stream.
-use Rattle.std.proofs.Common.{◌≡◌, ℕ, ◌+◌, ◌*◌, ◌≤◌, ◌<◌, Bool, List, [], ◌∷◌, length, take, drop, refl, subst, sym, inl, inr}
+use Rattle.std.proofs.Common.{◌≡◌, ℕ, ◌+◌, ◌≤◌, ◌<◌, Bool, List, [], ◌∷◌, length, take, drop, refl, subst, sym, inl, inr}
 use Rattle.std.specs.Prelude.{Some, None, Ok, Err, IfOk, IfSome, if◌then◌else◌, not, ◌&&◌, ◌==◌}
 use Rattle.std.specs.Int.{from_bool}
 use Rattle.std.specs.declared.option.Option.{Option}

@@ -1,7 +1,6 @@
 -- How the frames of a stream lie in it, in either version.
-use Rattle.std.proofs.Common.{◌≡◌, ℕ, zero, suc, ◌+◌, ◌-◌, ◌*◌, ◌%◌, ◌≤◌, ◌<◌, ◌⊎◌, Bool, List, length, take, drop, refl, ap, sym, ◌∙◌, subst, arith, inl, inr, length-drop, drop-drop}
-use Rattle.std.specs.Prelude.{Some, None, Ok, Err, slice_index, ◌==◌, if◌then◌else◌}
-use Rattle.std.specs.declared.option.Option.{Option}
+use Rattle.std.proofs.Common.{◌≡◌, ℕ, zero, suc, ◌+◌, ◌-◌, ◌*◌, ◌%◌, ◌≤◌, ◌<◌, ◌⊎◌, List, length, take, drop, refl, ap, sym, ◌∙◌, subst, arith, inl, inr, length-drop, drop-drop}
+use Rattle.std.specs.Prelude.{Some, None, Ok, Err, slice_index, ◌==◌}
 use Rattle.std.specs.declared.result.Result.{Result}
 use Rattle.std.proofs.lemmas.Bool.{ne_eqb}
 use Rattle.std.proofs.lemmas.List.{get_or-drop}
@@ -10,7 +9,6 @@ use Rattle.isdbt_base.specs.declared.kinds.Guard.{Guard}
 use Rattle.isdbt_base.specs.declared.head.HeadFault.{HeadFault}
 use Rattle.isdbt_base.specs.declared.stream.Form.{Form}
 use Rattle.isdbt_base.specs.declared.stream.Form.TheVariants.{V1, V2}
-use Rattle.isdbt_base.specs.Heads.{head_read}
 use Rattle.isdbt_base.proofs.RangeLaws.{map-same}
 use Rattle.coder_core.specs.SentCells.{frame_size}
 use Rattle.seg_receiver.specs.Epochs.{epoch_start, epoch_head}

@@ -1,5 +1,5 @@
 -- A stream of cells as a receiver sees it: the TMCC words of its frames, and the cells by frame, symbol, segment and carrier. The layout is that of the cells that are sent.
-use Rattle.std.specs.Prelude.{◌≡◌, ◌≤◌, ◌<◌, ℕ, zero, suc, ◌+◌, ◌*◌, ◌%◌, Bool, true, false, ◌==◌, Option, Some, None, Result, Ok, Err, List, length, take, drop, map, slice_index}
+use Rattle.std.specs.Prelude.{◌≡◌, ◌≤◌, ◌<◌, ℕ, zero, suc, ◌+◌, ◌*◌, ◌%◌, Bool, true, false, ◌==◌, Option, None, Result, Ok, Err, List, length, take, drop, map, slice_index}
 use Rattle.std.specs.List.{range_with_len}
 use Rattle.std.specs.Int.{w8, cast_signed}
 use Rattle.isdbt_base.specs.declared.kinds.Mode.{Mode}

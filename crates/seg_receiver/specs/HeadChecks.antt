@@ -1,5 +1,5 @@
 -- At which byte the head of a frame is refused.
-use Rattle.std.specs.Prelude.{ℕ, Bool, not, if◌then◌else◌, ◌==◌, min, Option, Some, None, Result, Ok, Err, List, slice_index}
+use Rattle.std.specs.Prelude.{ℕ, not, if◌then◌else◌, ◌==◌, min, Option, Some, None, Result, Ok, Err, List, slice_index}
 use Rattle.isdbt_base.specs.declared.kinds.Mode.{Mode}
 use Rattle.isdbt_base.specs.declared.kinds.Guard.{Guard}
 use Rattle.isdbt_base.specs.declared.head.HeadFault.{HeadFault}

@@ -1,5 +1,5 @@
 -- What a receiver gives out for a stream of cells, whatever it is: for each frame whose word is read, the broadcast packets of the word's setting, each layer's packets put off by its delay, with null packets before.
-use Rattle.std.specs.Prelude.{ℕ, zero, suc, ◌+◌, ◌-◌, ◌/◌, ◌%◌, Bool, if◌then◌else◌, nat_le, ◌==◌, Option, Some, None, Ok, Err, Result, List, [], flat_map}
+use Rattle.std.specs.Prelude.{ℕ, ◌+◌, ◌-◌, ◌/◌, ◌%◌, Bool, if◌then◌else◌, nat_le, ◌==◌, Option, Some, None, Ok, Err, Result, List, [], flat_map}
 use Rattle.std.specs.List.{range_with_len}
 use Rattle.isdbt_base.specs.declared.kinds.Mode.{Mode}
 use Rattle.isdbt_base.specs.declared.kinds.Guard.{Guard}

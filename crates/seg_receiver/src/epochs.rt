@@ -203,15 +203,7 @@ fn receive_held<H: Shelf, K: Sink>(
         Ok(()) => {}
         Err(Failed) => return Err(ReceiveFault::WriteFault),
     }
-    receive_further(
-        &mut receiver,
-        epoch,
-        number + 1,
-        word,
-        buffers,
-        shelf,
-        sink,
-    )
+    receive_further(&mut receiver, epoch, number + 1, word, buffers, shelf, sink)
 }
 
 /// The epoch that begins at a frame below the limit.

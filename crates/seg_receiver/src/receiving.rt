@@ -87,11 +87,5 @@ pub fn receive<H: Shelf, K: Sink>(
     let Ok(mut buffers) = ReceiveBuffers::open(alloc, form) else {
         return Err(ReceiveFault::NoMemory);
     };
-    receive_epochs(
-        alloc,
-        Reception { form, limit },
-        &mut buffers,
-        shelf,
-        sink,
-    )
+    receive_epochs(alloc, Reception { form, limit }, &mut buffers, shelf, sink)
 }

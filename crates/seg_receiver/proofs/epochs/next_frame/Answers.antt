@@ -1,10 +1,9 @@
-use Rattle.std.proofs.Common.{◌≡◌, ◌+◌, ℕ, Bool, false, List, length, drop, vec_len, sym, subst, ◌∙◌, Ok, Err, Some, None, IfOk, IfSome}
+use Rattle.std.proofs.Common.{◌≡◌, ◌+◌, ℕ, false, List, length, drop, vec_len, sym, subst, ◌∙◌, Ok, Err, Some, None, IfOk, IfSome}
 use Rattle.std.specs.declared.option.Option.{Option}
 use Rattle.std.proofs.lemmas.List.{take_at}
 use Rattle.isdbt_base.specs.declared.kinds.Mode.{Mode}
 use Rattle.isdbt_base.specs.declared.kinds.Guard.{Guard}
 use Rattle.edge_io.specs.declared.shelf.Seat.TheVariants as seats
-use Rattle.tmcc_word.specs.Fields.{TmccFields}
 use Rattle.seg_receiver.specs.CellStream.{view_of}
 use Rattle.seg_receiver.specs.Receiver.{StandsFor}
 use Rattle.seg_receiver.specs.EpochAnswers.{HeadTaken, HeadAnswer, TakeAnswer, InEpoch}

@@ -111,7 +111,7 @@ loop-number-preserved g c = record {
       let P : Option (TmccFields × Bool) → Type 0 = λ o. TakeAnswer v false stream c.args.epoch.limit number said (Some c.loop-number.last) frame first (g.K.Sink.written c.loop-number.sink) (g.H.Shelf.left c.next_frame.new.shelf seats.In) (Ok o) in
       let taken : P (Some word) = subst P c.in-Ok-Some.field-0-is (c.in-Ok-Some.ensures.answer stream start first (g.K.Sink.written c.loop-number.sink) going.so_far other) in
       let Q : Option (TmccFields × Bool) → Type 0 = λ o. IfSome o (λ word. (stream : List ℕ) (start h : ℕ) (first now : Option (List ℕ)) → InEpoch (view_of c.args.epoch.form stream) false stream c.args.epoch.limit start number said c.loop-number.last (g.H.Shelf.left c.loop-number.shelf seats.In) first now
-    → (c.loop-number.last.0.countdown ≡ 0 → ⊥) → start + h ≡ number → StandsFor c.loop-number.receiver (view_of c.args.epoch.form stream).cell start h → StandsFor c.next_frame.new.receiver (view_of c.args.epoch.form stream).cell start h) in
+      → (c.loop-number.last.0.countdown ≡ 0 → ⊥) → start + h ≡ number → StandsFor c.loop-number.receiver (view_of c.args.epoch.form stream).cell start h → StandsFor c.next_frame.new.receiver (view_of c.args.epoch.form stream).cell start h) in
       let state : Q (Some word) = subst Q c.in-Ok-Some.field-0-is c.in-Ok-Some.ensures.state in
       let fed = state stream start (number - start) first (g.K.Sink.written c.loop-number.sink) going.so_far other here going.stands in
       let setting = next_setting v false stream c.args.epoch.limit start number said c.loop-number.last word frame _ _ first _ going.so_far other taken in

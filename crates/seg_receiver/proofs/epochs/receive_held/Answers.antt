@@ -2,7 +2,6 @@ use Rattle.std.proofs.Common.{◌≡◌, ◌+◌, drop, true, false, refl, ap, s
 use Rattle.std.proofs.lemmas.Bool.{eq-eqb}
 use Rattle.isdbt_base.specs.declared.kinds.Mode.{Mode}
 use Rattle.isdbt_base.specs.declared.kinds.Guard.{Guard}
-use Rattle.edge_io.specs.declared.shelf.Seat.TheVariants as seats
 use Rattle.tmcc_word.specs.Fields.{TmccFields}
 use Rattle.seg_receiver.specs.CellStream.{view_of}
 use Rattle.seg_receiver.specs.Receiver.{mode_of, guard_of, setting_of}

@@ -1,13 +1,12 @@
-use Rattle.std.proofs.Common.{◌≡◌, ℕ, ◌+◌, ◌*◌, List, false, [], length, drop, ap, sym, ◌∙◌, subst, arith}
+use Rattle.std.proofs.Common.{◌≡◌, ℕ, ◌+◌, ◌*◌, List, false, [], length, drop, ap, sym, subst, arith}
 use Rattle.std.proofs.lemmas.List.{take_at}
-use Rattle.isdbt_base.specs.Numbers.{carriers}
 use Rattle.edge_io.specs.declared.shelf.Seat.TheVariants as seats
 use Rattle.coder_core.specs.SentCells.{frame_size}
 use Rattle.seg_receiver.specs.CellStream.{view_of}
 use Rattle.seg_receiver.specs.FrameReading.{ShowsFrame}
 use Rattle.seg_receiver.specs.Receiver.{symbols_of, StandsFor}
 use Rattle.seg_receiver.specs.EpochAnswers.{HeadTaken}
-use Rattle.seg_receiver.proofs.FrameParts.{front-size, cells-size}
+use Rattle.seg_receiver.proofs.FrameParts.{front-size}
 use Rattle.seg_receiver.proofs.ReceiveProgress.{stopped-behind}
 use Rattle.seg_receiver.proofs.TakenFrames.{take_answer, take_cause, if_taken}
 use Rattle.seg_receiver.proofs.ViewLaws.{laid}

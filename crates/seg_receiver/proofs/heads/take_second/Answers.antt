@@ -1,7 +1,6 @@
-use Rattle.std.proofs.Common.{◌≡◌, ℕ, ◌+◌, ◌≤◌, ◌<◌, List, false, Some, Ok, length, take, drop, ap, sym, ◌∙◌, arith, length-drop}
-use Rattle.edge_io.specs.declared.shelf.Seat.TheVariants as seats
+use Rattle.std.proofs.Common.{false}
 use Rattle.edge_io.proofs.FrameAnswers.{refused_answer}
-use Rattle.seg_receiver.specs.CellStream.{second_version, second_start}
+use Rattle.seg_receiver.specs.CellStream.{second_version}
 use Rattle.seg_receiver.specs.ReceiveAnswers.{receive_kind, receive_command}
 use Rattle.seg_receiver.proofs.FrameParts.{came-known, stopped-known}
 use Rattle.seg_receiver.proofs.HeadAnswers.{no_head, head_cut, head_refused, head_taken, head_stopped}
