@@ -17,7 +17,7 @@ use Rattle.seg_receiver.specs.Received.{place_bits}
 use Rattle.seg_receiver.specs.UsedDecoders.{IsDecoderOf, DecoderStandsFor, AreCellsFrom, ArePacketsOf, TakesIfUsed, GivesIfUsed}
 
 -- the cells of a symbol from a segment on have the bits of an epoch symbol
-is_symbol : (mode : Mode) (l : LayerParameters) (cell : FrameCells) (start first h k : ℕ) (cells : List Cell) → k < 204 → AreCellsFrom mode cell first (start + h) k cells
+pub is_symbol : (mode : Mode) (l : LayerParameters) (cell : FrameCells) (start first h k : ℕ) (cells : List Cell) → k < 204 → AreCellsFrom mode cell first (start + h) k cells
     → IsSymbol l.modulation (place_bits mode l cell start first) (204 * h + k) cells
 is_symbol mode l cell start first h k cells less are = record {
   each = λ w within.

@@ -92,12 +92,18 @@ stopped-known n buffer rest known left told less within taken =
 
 -- ---- the front of a buffer
 
+-- a part at the front of a buffer has its size
+pub part_size : (buffer part : List ℕ) (size room : ℕ) → size ≡ room → room ≤ length buffer → length part ≡ length (take size buffer) → length part ≡ size
+part_size buffer part size room is fits same = same ∙ length-take-le size buffer (omega (arith, is, fits))
+
 -- the front of a buffer that has room for a frame has its size
 pub front-size : (buffer part : List ℕ) (n size : ℕ) → 204 * n ≡ size → size ≤ length buffer → length part ≡ length (take (204 * n) buffer) → length part ≡ size
 front-size buffer part n size is fits same =
     let cut = length-take-le (204 * n) buffer (omega (arith, is, fits)) in
     omega (arith, is, cut, same)
 
--- the front of the cells that has room for those of a symbol
-pub cells-size : (cells : List Cell) (n size : ℕ) → n ≡ size → 13 * size ≤ length cells → length (take (13 * n) cells) ≡ 13 * size
-cells-size cells n size is fits = length-take-le (13 * n) cells (omega (arith, is, fits)) ∙ ap (λ m. 13 * m) is
+-- the front of the cells that has room for those of so many segments of a symbol
+pub cells-size : (cells : List Cell) (count segments n size : ℕ) → count ≡ segments → n ≡ size → segments * size ≤ length cells → length (take (count * n) cells) ≡ segments * size
+cells-size cells count segments n size many is fits =
+    let e : count * n ≡ segments * size = ap (λ m. m * n) many ∙ ap (λ m. segments * m) is in
+    length-take-le (count * n) cells (omega (arith, e, fits)) ∙ e

@@ -4,6 +4,7 @@ pub mod BufferRoom
 pub mod CleanDelivered
 pub mod CodedInput
 pub mod DecoderParts
+pub mod EpochParts
 pub mod EpochProgress
 pub mod EpochStarts
 pub mod FoundFrames
@@ -18,6 +19,7 @@ pub mod NearHeads
 pub mod NearOutcome
 pub mod NextSettings
 pub mod PartialDelivered
+pub mod PartialParts
 pub mod Pieces
 pub mod PlanViews
 pub mod RangeCuts

@@ -39,7 +39,7 @@ before-segments mode s B = refl
 before-segments mode s C = ap (λ n. s.a.segments * carriers mode + n) (cells-segments mode s.b) ∙ sym (add-mul s.a.segments (number_of (λ l. l.segments) s.b) (carriers mode))
 
 -- a cell of a layer has a segment and a carrier
-cell-at : (mode : Mode) (s : Parameters) (x : Layer) (cells : List Cell) (cell : FrameCells) (f k w : ℕ) → IsAccepted s → IsSymbolOf mode cell f k cells → w < number_of (layer_cells mode) (layer_of s x)
+cell-at : (mode : Mode) (s : Parameters) (x : Layer) (cells : List Cell) (cell : FrameCells) (f k w : ℕ) → IsAccepted s → IsSymbolOf 13 mode cell f k cells → w < number_of (layer_cells mode) (layer_of s x)
     → slice_get cells (first_segment s x * carriers mode + w) ≡ Some (cell f k (first_segment s x + w / carriers mode) (w % carriers mode))
 cell-at mode s x cells cell f k w accepted is h =
     elim (option_cases (layer_of s x)) [
@@ -52,7 +52,7 @@ cell-at mode s x cells cell f k w accepted is h =
     ]
 
 pub layer-cells : (mode : Mode) (s : Parameters) (x : Layer) (cells : List Cell) (cell : FrameCells) (f k from n : ℕ) → IsAccepted s → from ≡ sum_before (layer_cells mode) s x → n ≡ number_of (layer_cells mode) (layer_of s x)
-    → IsSymbolOf mode cell f k cells → AreCellsFrom mode cell (first_segment s x) f k (take n (drop from cells))
+    → IsSymbolOf 13 mode cell f k cells → AreCellsFrom mode cell (first_segment s x) f k (take n (drop from cells))
 layer-cells mode s x cells cell f k from n accepted at size is = record {
   each = λ w h.
       let l = length-take n (drop from cells) in

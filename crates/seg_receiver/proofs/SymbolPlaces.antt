@@ -1,5 +1,5 @@
 -- Bytes and cells of a symbol in the bytes of a stream.
-use Rattle.std.proofs.Common.{◌≡◌, ℕ, ◌+◌, ◌*◌, ◌%◌, ◌<◌, List, length, take, drop, refl, ap, sym, ◌∙◌, arith, Some}
+use Rattle.std.proofs.Common.{◌≡◌, ℕ, ◌+◌, ◌*◌, ◌%◌, ◌≤◌, ◌<◌, List, length, take, drop, refl, ap, sym, ◌∙◌, arith, Some}
 use Rattle.std.specs.Prelude.{slice_index, ◌==◌}
 use Rattle.std.specs.Int.{w8, cast_signed}
 use Rattle.std.proofs.lemmas.Nat.{mul-add-lt}
@@ -31,17 +31,19 @@ unfolding stream_cell
 stream_cell-at mode stream f k segment carrier = refl
 
 -- the cells of a symbol's bytes are those of symbol k
-pub is-symbol : (mode : Mode) (cell : FrameCells) (f k : ℕ) (rest part : List ℕ) (cells : List Cell) → k < 204 → length cells ≡ 13 * carriers mode → part ≡ take (symbol_size mode) (drop (k * symbol_size mode) rest)
-    → AreCellsOf part cells → ShowsFrame mode cell f rest → IsSymbolOf mode cell f k cells
-is-symbol mode cell f k rest part cells less size is are shows = record {
+pub is-symbol : (segments : ℕ) (mode : Mode) (cell : FrameCells) (f k : ℕ) (rest part : List ℕ) (cells : List Cell) → segments ≤ 13 → k < 204 → length cells ≡ segments * carriers mode → part ≡ take (symbol_size mode) (drop (k * symbol_size mode) rest)
+    → AreCellsOf part cells → ShowsFrame mode cell f rest → IsSymbolOf segments mode cell f k cells
+is-symbol segments mode cell f k rest part cells most less size is are shows = record {
   each = λ segment carrier s c. (
       let n = segment * carriers mode + carrier in
-      let within : n < 13 * carriers mode = (let e = mul-add-lt segment (carriers mode) carrier 13 s c in omega (arith, e)) in
+      let counted : n < segments * carriers mode = (let e = mul-add-lt segment (carriers mode) carrier segments s c in omega (arith, e)) in
+      let few : segment < 13 = omega (arith, s, most) in
+      let within : n < 13 * carriers mode = (let e = mul-add-lt segment (carriers mode) carrier 13 few c in omega (arith, e)) in
       let start = k * symbol_size mode in
-      are.each n (omega (arith, within, size))
+      are.each n (omega (arith, counted, size))
       ∙ ap Some (cell-in_piece rest part start (symbol_size mode) (1 + 2 * n) is (omega (arith, within))
       ∙ ap (cell_at rest) (let e : start + (1 + 2 * n) ≡ symbol_start mode 0 k + 1 + 2 * n = omega arith in e)
-      ∙ sym (stream_cell-at mode rest 0 k segment carrier) ∙ shows.each k segment carrier less s c));
+      ∙ sym (stream_cell-at mode rest 0 k segment carrier) ∙ shows.each k segment carrier less few c));
 }
 
 -- ---- frames of a stream

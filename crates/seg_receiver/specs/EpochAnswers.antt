@@ -8,7 +8,7 @@ use Rattle.isdbt_base.specs.declared.kinds.Guard.{Guard}
 use Rattle.isdbt_base.specs.Parameters.{Parameters, layer_of}
 use Rattle.edge_io.specs.declared.shelf.Seat.TheVariants as seats
 use Rattle.edge_io.specs.FrameAnswers.{Passed, Wrote, Finished, LoneAnswer}
-use Rattle.frame_order.specs.OrderedFrame.{ordered_frame}
+use Rattle.bts_info.specs.Fields.{Tag}
 use Rattle.tmcc_word.specs.Fields.{TmccFields}
 use Rattle.tmcc_word.specs.Reading.{read}
 use Rattle.coder_core.specs.SentCells.{frame_size}
@@ -24,10 +24,9 @@ use Rattle.seg_receiver.specs.ReceiveAnswers.{receive_kind, receive_command}
 
 -- ---- frames
 
--- frame h of an epoch, whose word says this
-abbrev pub epoch_frame : Mode → Guard → Parameters → FrameCells → ℕ → ℕ → TmccFields × Bool → Bool → List ℕ
-epoch_frame mode guard s cell start h word first =
-    ordered_frame mode guard s (record { odd = word.1; first = first; start_up = word.0.start_up; countdown = word.0.countdown }) null_packet (λ x j. setting_packet mode cell start (start + h) s x j (layer_of s x))
+-- what the packets of a frame with this word bear
+abbrev pub tag_of : TmccFields × Bool → Bool → Tag
+tag_of word first = record { odd = word.1; first = first; start_up = word.0.start_up; countdown = word.0.countdown }
 
 -- why a frame is refused of which a head of this size came, and so many bytes of its symbols: some and not all, or its word is refused
 abbrev pub FrameRefused : Mode → ℕ → Bool → ℕ → Option (TmccFields × Bool) → List ℕ → ℕ → ReceiveFault → Type 0

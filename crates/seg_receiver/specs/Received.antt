@@ -58,11 +58,15 @@ received v count = product (received_frame v) count
 
 -- ---- partial reception
 
+-- the bits of the cells of a layer of one segment, by epoch symbol and place
+abbrev pub segment_bits : Mode → LayerParameters → (ℕ → ℕ → ℕ → Cell) → ℕ → ℕ → ℕ → ℕ
+segment_bits mode l cell start = place_bits mode l (λ g k segment carrier. cell g k carrier) start 0
+
 -- layer A's packets that are given out in frame h of an epoch, from the cells of one segment: none before its delay
 abbrev pub partial_packets : Mode → LayerParameters → (ℕ → ℕ → ℕ → Cell) → ℕ → ℕ → List ℕ
 partial_packets mode l cell start h =
     if nat_le (layer_delay mode l) h
-    then flat_map (given_out mode l (place_bits mode l (λ g k segment carrier. cell g k carrier) start 0) h) (range_with_len 0 (packets_per_frame mode l))
+    then flat_map (given_out mode l (segment_bits mode l cell start) h) (range_with_len 0 (packets_per_frame mode l))
     else []
 
 -- the same of what a word says

@@ -24,9 +24,9 @@ setting_of r = r.setting
 abbrev pub symbols_of : Receiver → ℕ
 symbols_of r = r.symbols
 
--- the cells of a symbol, by segment and then by carrier, are those of symbol k of frame f
-pub record IsSymbolOf (mode : Mode) (cell : FrameCells) (f k : ℕ) (received : List Cell) : Type 0 where
-  pub each : (segment carrier : ℕ) → segment < 13 → carrier < carriers mode → slice_get received (segment * carriers mode + carrier) ≡ Some (cell f k segment carrier)
+-- cells of the first so many segments of a symbol, by segment and then by carrier, are those of symbol k of frame f
+pub record IsSymbolOf (segments : ℕ) (mode : Mode) (cell : FrameCells) (f k : ℕ) (received : List Cell) : Type 0 where
+  pub each : (segment carrier : ℕ) → segment < segments → carrier < carriers mode → slice_get received (segment * carriers mode + carrier) ≡ Some (cell f k segment carrier)
 
 -- the decoder of each used layer is as it is after the first h frames of the epoch that begins at a frame, and the symbols of the next that were seen
 pub record StandsFor (r : Receiver) (cell : FrameCells) (start h : ℕ) : Type 0 where

@@ -7,25 +7,29 @@ ghost use Rattle.edge_io.specs.FrameAnswers.{LoneCause, ReadingCause, AnswerRoom
 ghost use Rattle.tmcc_word.specs.Fields.{TmccFields};
 ghost use Rattle.seg_receiver.specs.Buffers.{CanHave, HasRoom};
 ghost use Rattle.seg_receiver.specs.CellStream.{view_of};
-ghost use Rattle.seg_receiver.specs.Receiver.{mode_of, guard_of, setting_of, symbols_of, StandsFor};
+ghost use Rattle.seg_receiver.specs.EpochReceiver.{symbols_of, IsReceiverOf, StandsFor};
+ghost use Rattle.isdbt_base.specs.declared.kinds.Mode.{Mode as SomeMode};
+ghost use Rattle.isdbt_base.specs.declared.kinds.Guard.{Guard as SomeGuard};
+ghost use Rattle.isdbt_base.specs.Parameters.{Parameters};
 ghost use Rattle.seg_receiver.specs.ReceiveAnswers.{receive_kind};
 ghost use Rattle.seg_receiver.specs.EpochAnswers.{Taken, TakeAnswer, AtEpoch, InEpoch, EpochAnswer, EndsPast};
 
 use crate::buffers::ReceiveBuffers;
+use crate::epoch_receiver::{EpochReceiver, open_receiver};
 use crate::fault::ReceiveFault;
 use crate::feeding::feed_held;
 use crate::frames::{CellFrame, read_first, read_further, write_received};
 use crate::heads::take_head;
-use crate::receiver::Receiver;
 use edge_io::{Failed, Shelf, Sink};
 use isdbt_base::{Form, Guard, Mode};
 use std::alloc::Global;
 use tmcc_word::TmccInfo;
 
-/// What is received: a stream of this version, at most so many frames of it.
+/// What is received: a stream of this version, in full or for partial reception, at most so many frames of it.
 #[derive(Clone, Copy)]
 pub struct Reception {
     pub form: Form,
+    pub partial: bool,
     pub limit: u32,
 }
 
@@ -33,6 +37,7 @@ pub struct Reception {
 #[derive(Clone, Copy)]
 pub struct Epoch {
     pub form: Form,
+    pub partial: bool,
     pub limit: u32,
     pub mode: Mode,
     pub guard: Guard,
@@ -58,14 +63,14 @@ pub enum EpochEnd {
 
 /// Takes, feeds and checks the next frame of an epoch, if there is one, behind a frame with this word.
 fn next_frame<H: Shelf>(
-    receiver: &mut Receiver,
+    receiver: &mut EpochReceiver,
     epoch: Epoch,
     number: u32,
     last: &(TmccInfo, bool),
     buffers: &mut ReceiveBuffers,
     shelf: &mut H,
 ) -> Result<Option<(TmccInfo, bool)>, ReceiveFault>
-    requires mode { mode_of receiver.old ≡ epoch.mode }
+    requires receiver { (s : Parameters) × IsReceiverOf epoch.partial epoch.mode epoch.guard s receiver.old }
     requires fresh { symbols_of receiver.old ≡ 0 }
     requires below { number < epoch.limit }
     requires can_have { CanHave epoch.form epoch.mode epoch.guard }
@@ -74,15 +79,13 @@ fn next_frame<H: Shelf>(
     ensures still_open { H.is_open shelf.new ≡ H.is_open shelf.old }
     ensures room_kept { HasRoom epoch.form buffers.new }
     ensures answer { (stream : List ℕ) (start : ℕ) (first now : Option (List ℕ))
-        → InEpoch (view_of epoch.form stream) false stream epoch.limit start number (epoch.mode, epoch.guard) last.now (H.left shelf.old seats.In) first now → (last.now.0.countdown ≡ 0 → ⊥)
-        → TakeAnswer (view_of epoch.form stream) false stream epoch.limit number (epoch.mode, epoch.guard) (Option.Some last.now) buffers.new.frame.items first now (H.left shelf.new seats.In) result }
+        → InEpoch (view_of epoch.form stream) epoch.partial stream epoch.limit start number (epoch.mode, epoch.guard) last.now (H.left shelf.old seats.In) first now → (last.now.0.countdown ≡ 0 → ⊥)
+        → TakeAnswer (view_of epoch.form stream) epoch.partial stream epoch.limit number (epoch.mode, epoch.guard) (Option.Some last.now) buffers.new.frame.items first now (H.left shelf.new seats.In) result }
     ensures state { IfOk result (λ o. IfSome o (λ word. (stream : List ℕ) (start h : ℕ) (first now : Option (List ℕ))
-        → InEpoch (view_of epoch.form stream) false stream epoch.limit start number (epoch.mode, epoch.guard) last.now (H.left shelf.old seats.In) first now → (last.now.0.countdown ≡ 0 → ⊥)
+        → InEpoch (view_of epoch.form stream) epoch.partial stream epoch.limit start number (epoch.mode, epoch.guard) last.now (H.left shelf.old seats.In) first now → (last.now.0.countdown ≡ 0 → ⊥)
         → start + h ≡ number → StandsFor receiver.old (view_of epoch.form stream).cell start h → StandsFor receiver.new (view_of epoch.form stream).cell start h)) }
     ensures symbols { IfOk result (λ o. IfSome o (λ word. symbols_of receiver.new ≡ 204)) }
-    ensures mode_kept { mode_of receiver.new ≡ mode_of receiver.old }
-    ensures guard { guard_of receiver.new ≡ guard_of receiver.old }
-    ensures setting { setting_of receiver.new ≡ setting_of receiver.old }
+    ensures kept { (partial : Bool) (m : SomeMode) (g : SomeGuard) (s : Parameters) → IsReceiverOf partial m g s receiver.old → IsReceiverOf partial m g s receiver.new }
     ensures cause { ReadingCause receive_kind (H.faults shelf.old) (H.faults shelf.new) result }
 {
     let due = Some((epoch.mode, epoch.guard));
@@ -93,6 +96,7 @@ fn next_frame<H: Shelf>(
     }
     let frame = CellFrame {
         form: epoch.form,
+        partial: epoch.partial,
         number,
         mode: epoch.mode,
         guard: epoch.guard,
@@ -109,7 +113,7 @@ fn next_frame<H: Shelf>(
 
 /// The frames of an epoch behind its first, from frame `next` on: reads, checks, receives and writes one after another.
 fn receive_further<H: Shelf, K: Sink>(
-    receiver: &mut Receiver,
+    receiver: &mut EpochReceiver,
     epoch: Epoch,
     next: u32,
     word: &(TmccInfo, bool),
@@ -117,9 +121,7 @@ fn receive_further<H: Shelf, K: Sink>(
     shelf: &mut H,
     sink: &mut K,
 ) -> Result<EpochEnd, ReceiveFault>
-    requires mode { mode_of receiver.old ≡ epoch.mode }
-    requires guard { guard_of receiver.old ≡ epoch.guard }
-    requires setting { setting_of receiver.old ≡ word.now.0.now }
+    requires receiver { IsReceiverOf epoch.partial epoch.mode epoch.guard word.now.0.now receiver.old }
     requires fresh { symbols_of receiver.old ≡ 0 }
     requires some { 0 < next }
     requires most { next ≤ epoch.limit }
@@ -131,8 +133,8 @@ fn receive_further<H: Shelf, K: Sink>(
     ensures past { (f : ℕ) → f < next → EndsPast f epoch.limit result }
     ensures answer { (stream : List ℕ) (start h : ℕ) (first : Option (List ℕ)) → start + h ≡ next → 0 < h
         → StandsFor receiver.old (view_of epoch.form stream).cell start h
-        → InEpoch (view_of epoch.form stream) false stream epoch.limit start next (epoch.mode, epoch.guard) word.now (H.left shelf.old seats.In) first (K.written sink.old)
-        → EpochAnswer (view_of epoch.form stream) false stream epoch.limit first (K.written sink.new) (H.left shelf.new seats.In) result }
+        → InEpoch (view_of epoch.form stream) epoch.partial stream epoch.limit start next (epoch.mode, epoch.guard) word.now (H.left shelf.old seats.In) first (K.written sink.old)
+        → EpochAnswer (view_of epoch.form stream) epoch.partial stream epoch.limit first (K.written sink.new) (H.left shelf.new seats.In) result }
     ensures cause { LoneCause receive_kind (H.faults shelf.old) (H.faults shelf.new) (K.faults sink.old) (K.faults sink.new) result }
     ensures sink_room { K.room sink.new ≡ K.room sink.old }
     ensures reached { AnswerRoom receive_kind (K.room sink.old) (K.written sink.new) result }
@@ -173,6 +175,7 @@ fn receive_held<H: Shelf, K: Sink>(
     shelf: &mut H,
     sink: &mut K,
 ) -> Result<EpochEnd, ReceiveFault>
+    requires flag { epoch.partial ≡ true → word.now.0.now.partial ≡ true }
     requires below { number < epoch.limit }
     requires few { epoch.limit ≤ 16777216 }
     requires can_have { CanHave epoch.form epoch.mode epoch.guard }
@@ -182,15 +185,16 @@ fn receive_held<H: Shelf, K: Sink>(
     ensures kept { HasRoom epoch.form buffers.new }
     ensures past { EndsPast number epoch.limit result }
     ensures answer { (stream : List ℕ) (last : Option (TmccFields × Bool)) (known first : Option (List ℕ))
-        → AtEpoch (view_of epoch.form stream) false stream epoch.limit number last known first (K.written sink.old)
-        → Taken (view_of epoch.form stream) false stream epoch.limit number (epoch.mode, epoch.guard) last word.now buffers.old.frame.items (H.left shelf.old seats.In)
-        → EpochAnswer (view_of epoch.form stream) false stream epoch.limit first (K.written sink.new) (H.left shelf.new seats.In) result }
+        → AtEpoch (view_of epoch.form stream) epoch.partial stream epoch.limit number last known first (K.written sink.old)
+        → Taken (view_of epoch.form stream) epoch.partial stream epoch.limit number (epoch.mode, epoch.guard) last word.now buffers.old.frame.items (H.left shelf.old seats.In)
+        → EpochAnswer (view_of epoch.form stream) epoch.partial stream epoch.limit first (K.written sink.new) (H.left shelf.new seats.In) result }
     ensures cause { LoneCause receive_kind (H.faults shelf.old) (H.faults shelf.new) (K.faults sink.old) (K.faults sink.new) result }
     ensures sink_room { K.room sink.new ≡ K.room sink.old }
     ensures reached { AnswerRoom receive_kind (K.room sink.old) (K.written sink.new) result }
 {
     let info = word.0;
-    let Ok(mut receiver) = Receiver::open(alloc, &info.now, epoch.mode, epoch.guard) else {
+    let opened = open_receiver(alloc, epoch.partial, &info.now, epoch.mode, epoch.guard);
+    let Ok(mut receiver) = opened else {
         return Err(ReceiveFault::NoMemory);
     };
     feed_held(
@@ -223,8 +227,8 @@ pub fn receive_epoch<H: Shelf, K: Sink>(
     ensures kept { HasRoom reception.form buffers.new }
     ensures past { EndsPast start.now.frame reception.limit result }
     ensures answer { (stream : List ℕ) (first : Option (List ℕ))
-        → AtEpoch (view_of reception.form stream) false stream reception.limit start.now.frame start.now.before (H.left shelf.old seats.In) first (K.written sink.old)
-        → EpochAnswer (view_of reception.form stream) false stream reception.limit first (K.written sink.new) (H.left shelf.new seats.In) result }
+        → AtEpoch (view_of reception.form stream) reception.partial stream reception.limit start.now.frame start.now.before (H.left shelf.old seats.In) first (K.written sink.old)
+        → EpochAnswer (view_of reception.form stream) reception.partial stream reception.limit first (K.written sink.new) (H.left shelf.new seats.In) result }
     ensures cause { LoneCause receive_kind (H.faults shelf.old) (H.faults shelf.new) (K.faults sink.old) (K.faults sink.new) result }
     ensures sink_room { K.room sink.new ≡ K.room sink.old }
     ensures reached { AnswerRoom receive_kind (K.room sink.old) (K.written sink.new) result }
@@ -237,8 +241,10 @@ pub fn receive_epoch<H: Shelf, K: Sink>(
         Ok(None) => return Ok(EpochEnd::Input(number)),
         Err(fault) => return Err(fault),
     };
+    let partial = reception.partial;
     let frame = CellFrame {
         form,
+        partial,
         number,
         mode,
         guard,
@@ -250,6 +256,7 @@ pub fn receive_epoch<H: Shelf, K: Sink>(
     };
     let epoch = Epoch {
         form,
+        partial,
         limit: reception.limit,
         mode,
         guard,

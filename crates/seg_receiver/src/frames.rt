@@ -1,23 +1,26 @@
 //! The frames of a stream of cells, one after another: read, checked and written.
 
-ghost use Rattle.std.specs.Prelude.{◌≡◌, ℕ, List, ◌+◌, ◌*◌, ◌≤◌, ◌<◌, Some, None, true, false, length, take, OnOk, OnErr, IfOk, IfSome};
+ghost use Rattle.std.specs.Prelude.{◌≡◌, ℕ, Bool, List, ◌+◌, ◌*◌, ◌≤◌, ◌<◌, Some, None, true, false, length, take, OnOk, OnErr, IfOk, IfSome};
 ghost use Rattle.std.specs.declared.option.Option.{Option};
-ghost use Rattle.isdbt_base.specs.Numbers.{carriers, slots_per_frame};
+ghost use Rattle.isdbt_base.specs.Numbers.{carriers};
 ghost use Rattle.edge_io.specs.declared.shelf.Seat.TheVariants as seats;
 ghost use Rattle.edge_io.specs.Known.{append_known, ReachesRoom};
 ghost use Rattle.edge_io.specs.Causes.{HasCause};
 ghost use Rattle.edge_io.specs.FrameAnswers.{ReadingCause};
 ghost use Rattle.coder_core.specs.SentCells.{frame_size};
 ghost use Rattle.seg_receiver.specs.CellStream.{FrameCells, view_of};
-ghost use Rattle.seg_receiver.specs.Receiver.{mode_of, guard_of, setting_of, symbols_of, StandsFor};
+ghost use Rattle.seg_receiver.specs.EpochReceiver.{mode_of, segments_of, symbols_of, frame_room, IsReceiverOf, StandsFor, epoch_frame};
+ghost use Rattle.isdbt_base.specs.declared.kinds.Mode.{Mode as SomeMode};
+ghost use Rattle.isdbt_base.specs.declared.kinds.Guard.{Guard as SomeGuard};
+ghost use Rattle.isdbt_base.specs.Parameters.{Parameters};
 ghost use Rattle.seg_receiver.specs.ReceiveAnswers.{receive_kind};
-ghost use Rattle.seg_receiver.specs.EpochAnswers.{epoch_frame, FrameCheck, Progress, HeadTaken, TakeAnswer};
+ghost use Rattle.seg_receiver.specs.EpochAnswers.{tag_of, FrameCheck, Progress, HeadTaken, TakeAnswer};
 
 use crate::check_word::check_word;
+use crate::epoch_receiver::{EpochReceiver, put_frame, segments};
 use crate::fault::ReceiveFault;
 use crate::feeding::feed_read;
 use crate::heads::head_bytes;
-use crate::receiver::Receiver;
 use crate::symbols::word_in;
 use bts_info::FrameTag;
 use cell_map::Cell;
@@ -25,10 +28,12 @@ use edge_io::{Failed, Seat, Shelf, Sink, fill, write_whole};
 use isdbt_base::{Form, Guard, Mode, SYMBOLS, carriers, symbol_size};
 use tmcc_word::TmccInfo;
 
-/// A frame of a stream of this version, whose head is taken, of this mode and guard interval.
+/// A frame of a stream of this version, received in full or for partial reception, whose head is taken, of this mode and
+/// guard interval.
 #[derive(Clone, Copy)]
 pub struct CellFrame {
     pub form: Form,
+    pub partial: bool,
     pub number: u32,
     pub mode: Mode,
     pub guard: Guard,
@@ -44,7 +49,8 @@ fn word_read(
 ) -> Result<Option<(TmccInfo, bool)>, ReceiveFault>
     requires size { length symbols.now ≡ frame_size frame.mode }
     requires most { count ≤ length symbols.now }
-    ensures { (stream : List ℕ) → FrameCheck frame.mode (view_of frame.form stream).head false frame.number before.now symbols.now count result }
+    ensures check { (stream : List ℕ) → FrameCheck frame.mode (view_of frame.form stream).head frame.partial frame.number before.now symbols.now count result }
+    ensures flag { IfOk result (λ o. IfSome o (λ word. frame.partial ≡ true → word.0.now.partial ≡ true)) }
 {
     let over = head_bytes(frame.form) + count;
     if over == 0 {
@@ -56,7 +62,12 @@ fn word_read(
             over: over as u32,
         });
     }
-    let word = check_word(frame.number, false, before, &word_in(symbols, frame.mode))?;
+    let word = check_word(
+        frame.number,
+        frame.partial,
+        before,
+        &word_in(symbols, frame.mode),
+    )?;
     Ok(Some(word))
 }
 
@@ -71,9 +82,10 @@ pub fn read_first<H: Shelf>(
     requires is_open { H.is_open shelf.old seats.In ≡ true }
     ensures still_open { H.is_open shelf.new ≡ H.is_open shelf.old }
     ensures answer { (stream : List ℕ) (limit : ℕ) (known first now : Option (List ℕ)) → frame.number < limit
-        → Progress (view_of frame.form stream) false stream limit frame.number before.now known first now
+        → Progress (view_of frame.form stream) frame.partial stream limit frame.number before.now known first now
         → HeadTaken (view_of frame.form stream) stream frame.number (frame.mode, frame.guard) (H.left shelf.old seats.In)
-        → TakeAnswer (view_of frame.form stream) false stream limit frame.number (frame.mode, frame.guard) before.now buffer.new first now (H.left shelf.new seats.In) result }
+        → TakeAnswer (view_of frame.form stream) frame.partial stream limit frame.number (frame.mode, frame.guard) before.now buffer.new first now (H.left shelf.new seats.In) result }
+    ensures flag { IfOk result (λ o. IfSome o (λ word. frame.partial ≡ true → word.0.now.partial ≡ true)) }
     ensures cause { ReadingCause receive_kind (H.faults shelf.old) (H.faults shelf.new) result }
 {
     let symbols = &mut buffer[..SYMBOLS * symbol_size(frame.mode)];
@@ -86,7 +98,7 @@ pub fn read_first<H: Shelf>(
 
 /// Reads the symbols of a further frame of an epoch, feeds each as it comes, and checks the frame.
 pub fn read_further<H: Shelf>(
-    receiver: &mut Receiver,
+    receiver: &mut EpochReceiver,
     frame: CellFrame,
     before: &Option<(TmccInfo, bool)>,
     buffer: &mut [u8],
@@ -96,24 +108,22 @@ pub fn read_further<H: Shelf>(
     requires mode { mode_of receiver.old ≡ frame.mode }
     requires fresh { symbols_of receiver.old ≡ 0 }
     requires size { frame_size frame.mode ≤ length buffer.old }
-    requires room { 13 * carriers frame.mode ≤ length cells.old }
+    requires room { segments_of receiver.old * carriers frame.mode ≤ length cells.old }
     requires is_open { H.is_open shelf.old seats.In ≡ true }
     ensures still_open { H.is_open shelf.new ≡ H.is_open shelf.old }
     ensures answer { (stream : List ℕ) (limit : ℕ) (known first now : Option (List ℕ)) → frame.number < limit
-        → Progress (view_of frame.form stream) false stream limit frame.number before.now known first now
+        → Progress (view_of frame.form stream) frame.partial stream limit frame.number before.now known first now
         → HeadTaken (view_of frame.form stream) stream frame.number (frame.mode, frame.guard) (H.left shelf.old seats.In)
-        → TakeAnswer (view_of frame.form stream) false stream limit frame.number (frame.mode, frame.guard) before.now buffer.new first now (H.left shelf.new seats.In) result }
+        → TakeAnswer (view_of frame.form stream) frame.partial stream limit frame.number (frame.mode, frame.guard) before.now buffer.new first now (H.left shelf.new seats.In) result }
     ensures state { IfOk result (λ o. IfSome o (λ word. (stream : List ℕ)
         → HeadTaken (view_of frame.form stream) stream frame.number (frame.mode, frame.guard) (H.left shelf.old seats.In)
         → (start h : ℕ) → start + h ≡ frame.number → StandsFor receiver.old (view_of frame.form stream).cell start h → StandsFor receiver.new (view_of frame.form stream).cell start h)) }
     ensures symbols { IfOk result (λ o. IfSome o (λ word. symbols_of receiver.new ≡ 204)) }
-    ensures mode_kept { mode_of receiver.new ≡ mode_of receiver.old }
-    ensures guard { guard_of receiver.new ≡ guard_of receiver.old }
-    ensures setting { setting_of receiver.new ≡ setting_of receiver.old }
+    ensures kept { (partial : Bool) (m : SomeMode) (g : SomeGuard) (s : Parameters) → IsReceiverOf partial m g s receiver.old → IsReceiverOf partial m g s receiver.new }
     ensures cause { ReadingCause receive_kind (H.faults shelf.old) (H.faults shelf.new) result }
 {
     let symbols = &mut buffer[..SYMBOLS * symbol_size(frame.mode)];
-    let cells = &mut cells[..13 * carriers(frame.mode) as usize];
+    let cells = &mut cells[..segments(receiver) * carriers(frame.mode) as usize];
     let count = match feed_read(receiver, frame.mode, symbols, cells, shelf) {
         Ok(count) => count,
         Err(Failed) => return Err(ReceiveFault::ReadFault(Seat::In)),
@@ -123,7 +133,7 @@ pub fn read_further<H: Shelf>(
 
 /// What the packets of a frame with this word bear.
 fn tag_of(word: &(TmccInfo, bool), first: bool) -> FrameTag
-    ensures { result ≡ record { odd = word.now.1; first = first; start_up = word.now.0.start_up; countdown = word.now.0.countdown } }
+    ensures { result ≡ tag_of word.now first }
 {
     FrameTag {
         odd: word.1,
@@ -133,31 +143,28 @@ fn tag_of(word: &(TmccInfo, bool), first: bool) -> FrameTag
     }
 }
 
-/// Writes the frame of packets that a receiver gives out behind a frame of cells with this word; it has room in `out`.
+/// Writes what a receiver gives out behind a frame of cells with this word; it has room in `out`.
 pub fn write_received<K: Sink>(
-    receiver: &mut Receiver,
+    receiver: &mut EpochReceiver,
     word: &(TmccInfo, bool),
     first: bool,
     out: &mut [u8],
     sink: &mut K,
 ) -> Result<(), Failed>
     requires whole { symbols_of receiver.old ≡ 204 }
-    requires room { 204 * slots_per_frame (mode_of receiver.old) (guard_of receiver.old) ≤ length out.old }
-    ensures ok { OnOk result ((cell : FrameCells) (start h : ℕ) → StandsFor receiver.old cell start h
-        → K.written sink.new ≡ append_known (K.written sink.old) (epoch_frame (mode_of receiver.old) (guard_of receiver.old) (setting_of receiver.old) cell start h word.now first)) }
-    ensures some { OnErr result ((cell : FrameCells) (start h : ℕ) → StandsFor receiver.old cell start h
-        → (n : ℕ) × (n < length (epoch_frame (mode_of receiver.old) (guard_of receiver.old) (setting_of receiver.old) cell start h word.now first))
-        × (K.written sink.new ≡ append_known (K.written sink.old) (take n (epoch_frame (mode_of receiver.old) (guard_of receiver.old) (setting_of receiver.old) cell start h word.now first)))) }
+    requires room { frame_room receiver.old ≤ length out.old }
+    ensures ok { OnOk result ((partial : Bool) (m : SomeMode) (g : SomeGuard) (s : Parameters) (cell : FrameCells) (start h : ℕ) → IsReceiverOf partial m g s receiver.old → StandsFor receiver.old cell start h
+        → K.written sink.new ≡ append_known (K.written sink.old) (epoch_frame partial m g s cell start h (tag_of word.now first))) }
+    ensures some { OnErr result ((partial : Bool) (m : SomeMode) (g : SomeGuard) (s : Parameters) (cell : FrameCells) (start h : ℕ) → IsReceiverOf partial m g s receiver.old → StandsFor receiver.old cell start h
+        → (n : ℕ) × (n < length (epoch_frame partial m g s cell start h (tag_of word.now first)))
+        × (K.written sink.new ≡ append_known (K.written sink.old) (take n (epoch_frame partial m g s cell start h (tag_of word.now first))))) }
     ensures state { (cell : FrameCells) (start h : ℕ) → StandsFor receiver.old cell start h → StandsFor receiver.new cell start (h + 1) }
     ensures symbols { symbols_of receiver.new ≡ 0 }
-    ensures mode { mode_of receiver.new ≡ mode_of receiver.old }
-    ensures guard { guard_of receiver.new ≡ guard_of receiver.old }
-    ensures setting { setting_of receiver.new ≡ setting_of receiver.old }
+    ensures kept { (partial : Bool) (m : SomeMode) (g : SomeGuard) (s : Parameters) → IsReceiverOf partial m g s receiver.old → IsReceiverOf partial m g s receiver.new }
     ensures sink_room { K.room sink.new ≡ K.room sink.old }
     ensures reached { OnErr result (ReachesRoom (K.room sink.old) (K.written sink.new)) }
     ensures cause { HasCause (K.faults sink.old) (K.faults sink.new) result }
 {
-    let out = &mut out[..receiver.frame_bytes()];
-    receiver.frame(&tag_of(word, first), out);
-    write_whole(sink, out)
+    let count = put_frame(receiver, &tag_of(word, first), out);
+    write_whole(sink, &out[..count])
 }

@@ -14,7 +14,7 @@ use isdbt_base::{Layer, Mode, Setting};
 pub fn layer_part<'a>(setting: &Setting, mode: Mode, layer: Layer, cells: &'a [Cell]) -> &'a [Cell]
     requires { length cells.now ≡ 13 * carriers mode }
     ensures size { length result.now ≡ number_of (layer_cells mode) (layer_of setting.now layer) }
-    ensures cells { (cell : FrameCells) (f k : ℕ) → IsSymbolOf mode cell f k cells.now → AreCellsFrom mode cell (first_segment setting.now layer) f k result.now }
+    ensures cells { (cell : FrameCells) (f k : ℕ) → IsSymbolOf 13 mode cell f k cells.now → AreCellsFrom mode cell (first_segment setting.now layer) f k result.now }
 {
     setting.acceptance_law();
     let from = setting.cells_before(mode, layer) as usize;

@@ -94,7 +94,7 @@ impl Receiver {
     pub fn symbol(&mut self, cells: &[Cell])
         requires size { length cells.now ≡ 13 * carriers (mode_of self.old) }
         requires few { symbols_of self.old < 204 }
-        ensures state { (cell : FrameCells) (start h : ℕ) → StandsFor self.old cell start h → IsSymbolOf (mode_of self.old) cell (start + h) (symbols_of self.old) cells.now → StandsFor self.new cell start h }
+        ensures state { (cell : FrameCells) (start h : ℕ) → StandsFor self.old cell start h → IsSymbolOf 13 (mode_of self.old) cell (start + h) (symbols_of self.old) cells.now → StandsFor self.new cell start h }
         ensures symbols { symbols_of self.new ≡ symbols_of self.old + 1 }
         ensures mode { mode_of self.new ≡ mode_of self.old }
         ensures guard { guard_of self.new ≡ guard_of self.old }

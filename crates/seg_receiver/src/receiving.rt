@@ -26,7 +26,7 @@ fn receive_epochs<H: Shelf, K: Sink>(
     requires room_for { HasRoom reception.form buffers.old }
     requires is_open { H.is_open shelf.old seats.In ≡ true }
     ensures answer { (stream : List ℕ) → H.left shelf.old seats.In ≡ Some stream
-        → LoneAnswer receive_kind (receive_command (view_of reception.form stream) false stream reception.limit) (K.written sink.old) (K.written sink.new) (H.left shelf.new seats.In) result }
+        → LoneAnswer receive_kind (receive_command (view_of reception.form stream) reception.partial stream reception.limit) (K.written sink.old) (K.written sink.new) (H.left shelf.new seats.In) result }
     ensures still_open { H.is_open shelf.new ≡ H.is_open shelf.old }
     ensures cause { LoneCause receive_kind (H.faults shelf.old) (H.faults shelf.new) (K.faults sink.old) (K.faults sink.new) result }
     ensures room { K.room sink.new ≡ K.room sink.old }
@@ -49,6 +49,28 @@ fn receive_epochs<H: Shelf, K: Sink>(
         Ok(false) => Err(ReceiveFault::TooLong),
         Err(Failed) => Err(ReceiveFault::ReadFault(Seat::In)),
     }
+}
+
+/// A reception, with buffers of its own.
+fn receive_stream<H: Shelf, K: Sink>(
+    alloc: Global,
+    reception: Reception,
+    shelf: &mut H,
+    sink: &mut K,
+) -> Result<u32, ReceiveFault>
+    requires few { reception.limit ≤ 16777216 }
+    requires is_open { H.is_open shelf.old seats.In ≡ true }
+    ensures answer { (stream : List ℕ) → H.left shelf.old seats.In ≡ Some stream
+        → LoneAnswer receive_kind (receive_command (view_of reception.form stream) reception.partial stream reception.limit) (K.written sink.old) (K.written sink.new) (H.left shelf.new seats.In) result }
+    ensures still_open { H.is_open shelf.new ≡ H.is_open shelf.old }
+    ensures cause { LoneCause receive_kind (H.faults shelf.old) (H.faults shelf.new) (K.faults sink.old) (K.faults sink.new) result }
+    ensures room { K.room sink.new ≡ K.room sink.old }
+    ensures reached { AnswerRoom receive_kind (K.room sink.old) (K.written sink.new) result }
+{
+    let Ok(mut buffers) = ReceiveBuffers::open(alloc, reception.form) else {
+        return Err(ReceiveFault::NoMemory);
+    };
+    receive_epochs(alloc, reception, &mut buffers, shelf, sink)
 }
 
 /// Receives the stream of cells at the seat In, read as `how` says, at most `limit` frames, and answers how many were
@@ -83,9 +105,41 @@ pub fn receive<H: Shelf, K: Sink>(
     ensures room { K.room sink.new ≡ K.room sink.old }
     ensures reached { AnswerRoom receive_kind (K.room sink.old) (K.written sink.new) result }
 {
-    let form = how.form;
-    let Ok(mut buffers) = ReceiveBuffers::open(alloc, form) else {
-        return Err(ReceiveFault::NoMemory);
+    let reception = Reception {
+        form: how.form,
+        partial: false,
+        limit,
     };
-    receive_epochs(alloc, Reception { form, limit }, &mut buffers, shelf, sink)
+    receive_stream(alloc, reception, shelf, sink)
+}
+
+/// Receives layer A alone of the stream of cells at the seat In: partial reception, from segment 0 and the TMCC words. For each
+/// frame of cells layer A's packets are written, 188 bytes each, as many frames late as the layer's delay: none in the first
+/// frames of each epoch. The other segments may hold any bytes. All else is as in [`receive`]; behind the setting that was
+/// announced a frame is checked for its partial reception flag.
+pub fn receive_partial<H: Shelf, K: Sink>(
+    alloc: Global,
+    how: Reading,
+    limit: u32,
+    shelf: &mut H,
+    sink: &mut K,
+) -> Result<u32, ReceiveFault>
+    requires some { 0 < limit }
+    requires few { limit ≤ 16777216 }
+    requires is_open { H.is_open shelf.old seats.In ≡ true }
+    ensures answer { (stream : List ℕ) → H.left shelf.old seats.In ≡ Some stream
+        → LoneAnswer receive_kind (receive_command (view_of how.form stream) true stream limit) (K.written sink.old) (K.written sink.new) (H.left shelf.new seats.In) result }
+    ensures still_open { H.is_open shelf.new ≡ H.is_open shelf.old }
+    ensures cause { LoneCause receive_kind (H.faults shelf.old) (H.faults shelf.new) (K.faults sink.old) (K.faults sink.new) result }
+
+    // The sink's room stays, and a write fails only where what was written reaches it.
+    ensures room { K.room sink.new ≡ K.room sink.old }
+    ensures reached { AnswerRoom receive_kind (K.room sink.old) (K.written sink.new) result }
+{
+    let reception = Reception {
+        form: how.form,
+        partial: true,
+        limit,
+    };
+    receive_stream(alloc, reception, shelf, sink)
 }

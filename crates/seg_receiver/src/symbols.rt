@@ -30,9 +30,9 @@ fn cell_at(bytes: &[u8], at: usize) -> Cell
     }
 }
 
-/// Reads the cells of a symbol, which stand behind its TMCC byte.
+/// Reads the first cells of a symbol, which stand behind its TMCC byte.
 pub fn read_cells(symbol: &[u8], cells: &mut [Cell])
-    requires { length symbol.now ≡ 1 + 2 * length cells.old }
+    requires { 1 + 2 * length cells.old ≤ length symbol.now }
     ensures { AreCellsOf symbol.now cells.new }
 {
     for n in 0..cells.len() {

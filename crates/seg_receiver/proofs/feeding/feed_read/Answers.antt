@@ -4,7 +4,8 @@ use borrow.Rule.Slice.PartMut.{put_mid, mid_of, same_len_mid}
 use Rattle.isdbt_base.specs.Numbers.{carriers}
 use Rattle.edge_io.specs.declared.shelf.Seat.TheVariants as seats
 use Rattle.seg_receiver.specs.CellStream.{symbol_size}
-use Rattle.seg_receiver.specs.Receiver.{mode_of, IsSymbolOf}
+use Rattle.seg_receiver.specs.Receiver.{IsSymbolOf}
+use Rattle.seg_receiver.specs.EpochReceiver.{mode_of, segments_of, symbols_of}
 use Rattle.seg_receiver.proofs.FrameParts.{Holds, holds-none, holds-more, came-short, came-whole, stopped-in, full-part}
 use Rattle.seg_receiver.proofs.SymbolPlaces.{is-symbol}
 use Rattle.seg_receiver.proofs.feeding.feed_read.Goals as goal
@@ -13,8 +14,8 @@ pub loop-k-init : goal.loop-k-init
 loop-k-init g c = record {
   symbols = c.requires.fresh;
   mode = refl;
-  guard = refl;
-  setting = refl;
+  segments = refl;
+  receiver_kept = λ partial m g s is. is;
   is_open = c.requires.is_open;
   still_open = refl;
   kept = refl;
@@ -44,10 +45,10 @@ loop-k-preserved g c =
     let full : c.in-Ok.count ≡ length part = (let most = c.in-Ok.ensures.most in let least = c.if-count-size.false in omega (arith, most, least, sized)) in
     let start : from ≡ c.loop-k.k * size = c.symbol_start-from.ensures.value in
     record {
-      symbols = c.symbol.ensures.symbols ∙ ap (λ n. n + 1) c.loop-k.invariant.symbols;
-      mode = c.symbol.ensures.mode ∙ c.loop-k.invariant.mode;
-      guard = c.symbol.ensures.guard ∙ c.loop-k.invariant.guard;
-      setting = c.symbol.ensures.setting ∙ c.loop-k.invariant.setting;
+      symbols = c.take_symbol.ensures.symbols ∙ ap (λ n. n + 1) c.loop-k.invariant.symbols;
+      mode = c.take_symbol.ensures.mode ∙ c.loop-k.invariant.mode;
+      segments = c.take_symbol.ensures.segments ∙ c.loop-k.invariant.segments;
+      receiver_kept = λ partial m g s is. c.take_symbol.ensures.kept partial m g s (c.loop-k.invariant.receiver_kept partial m g s is);
       is_open = ap (λ f. f seats.In) c.read_symbol.ensures.still_open ∙ c.loop-k.invariant.is_open;
       still_open = c.read_symbol.ensures.still_open ∙ c.loop-k.invariant.still_open;
       kept = c.in-Ok.ensures.cause.kept ∙ c.loop-k.invariant.kept;
@@ -63,11 +64,12 @@ loop-k-preserved g c =
           let piece = full-part part rest _ from c.in-Ok.count full came in
           let place : part ≡ take (symbol_size c.args.mode) (drop (c.loop-k.k * symbol_size c.args.mode) rest) =
           piece ∙ ap (λ n. take n (drop from rest)) (full ∙ sized ∙ value) ∙ ap (λ n. take (symbol_size c.args.mode) (drop n rest)) (start ∙ ap (λ n. c.loop-k.k * n) value) in
-          let room : length c.read_symbol.new.cells ≡ 13 * carriers c.args.mode = c.read_symbol.auto.cells ∙ c.loop-k.auto.cells ∙ c.requires.room in
-          let is = is-symbol c.args.mode cell (start_frame + h) c.loop-k.k rest part c.read_symbol.new.cells c.loop-k-test.true room place (c.in-Ok.ensures.cells full) shows in
-          c.symbol.ensures.state cell start_frame h (c.loop-k.invariant.stands rest told cell start_frame h stands shows)
-          (subst (λ n. IsSymbolOf (mode_of c.loop-k.receiver) cell (start_frame + h) n c.read_symbol.new.cells) (sym c.loop-k.invariant.symbols)
-          (subst (λ m. IsSymbolOf m cell (start_frame + h) c.loop-k.k c.read_symbol.new.cells) (sym mode) is)));
+          let room : length c.read_symbol.new.cells ≡ segments_of c.args.receiver.now * carriers c.args.mode = c.read_symbol.auto.cells ∙ c.loop-k.auto.cells ∙ c.requires.room in
+          let is = is-symbol (segments_of c.args.receiver.now) c.args.mode cell (start_frame + h) c.loop-k.k rest part c.read_symbol.new.cells c.requires.segments c.loop-k-test.true room place (c.in-Ok.ensures.cells full) shows in
+          c.take_symbol.ensures.state cell start_frame h (c.loop-k.invariant.stands rest told cell start_frame h stands shows)
+          (subst (λ m. IsSymbolOf m (mode_of c.loop-k.receiver) cell (start_frame + h) (symbols_of c.loop-k.receiver) c.read_symbol.new.cells) (sym c.loop-k.invariant.segments)
+          (subst (λ n. IsSymbolOf (segments_of c.args.receiver.now) (mode_of c.loop-k.receiver) cell (start_frame + h) n c.read_symbol.new.cells) (sym c.loop-k.invariant.symbols)
+          (subst (λ m. IsSymbolOf (segments_of c.args.receiver.now) m cell (start_frame + h) c.loop-k.k c.read_symbol.new.cells) (sym mode) is))));
     }
 
 pub returns-in-Err-clause-answer : goal.returns-in-Err-clause-answer

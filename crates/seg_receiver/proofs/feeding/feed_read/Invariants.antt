@@ -1,8 +1,11 @@
-use Rattle.std.proofs.Common.{◌≡◌, ◌+◌, ◌*◌, ℕ, List, true, Some}
+use Rattle.std.proofs.Common.{◌≡◌, ◌+◌, Bool, ◌*◌, ℕ, List, true, Some}
 use Rattle.edge_io.specs.declared.shelf.Seat.TheVariants as seats
 use Rattle.seg_receiver.specs.CellStream.{FrameCells}
 use Rattle.seg_receiver.specs.FrameReading.{ShowsFrame}
-use Rattle.seg_receiver.specs.Receiver.{mode_of, guard_of, setting_of, symbols_of, StandsFor}
+use Rattle.isdbt_base.specs.declared.kinds.Mode.{Mode}
+use Rattle.isdbt_base.specs.declared.kinds.Guard.{Guard}
+use Rattle.isdbt_base.specs.Parameters.{Parameters}
+use Rattle.seg_receiver.specs.EpochReceiver.{mode_of, segments_of, symbols_of, IsReceiverOf, StandsFor}
 use Rattle.seg_receiver.proofs.FrameParts.{Holds}
 use Rattle.seg_receiver.proofs.feeding.feed_read.Given as goal
 
@@ -10,8 +13,8 @@ abbrev pub invariant-loop-k : goal.invariant-loop-k
 invariant-loop-k g l = record {
   symbols : symbols_of l.receiver ≡ l.k;
   mode : mode_of l.receiver ≡ mode_of l.initial.receiver;
-  guard : guard_of l.receiver ≡ guard_of l.initial.receiver;
-  setting : setting_of l.receiver ≡ setting_of l.initial.receiver;
+  segments : segments_of l.receiver ≡ segments_of l.initial.receiver;
+  receiver_kept : (partial : Bool) (m : Mode) (g : Guard) (s : Parameters) → IsReceiverOf partial m g s l.initial.receiver → IsReceiverOf partial m g s l.receiver;
   is_open : g.H.Shelf.is_open l.shelf seats.In ≡ true;
   still_open : g.H.Shelf.is_open l.shelf ≡ g.H.Shelf.is_open l.initial.shelf;
   kept : g.H.Shelf.faults l.shelf ≡ g.H.Shelf.faults l.initial.shelf;
