@@ -1,5 +1,5 @@
 -- The buffers have room for each frame that a stream of their version can have.
-use Rattle.std.proofs.Common.{◌≡◌, ◌*◌, ◌≤◌, arith, ap, vec_len}
+use Rattle.std.proofs.Common.{rules, ◌≡◌, ◌*◌, ◌≤◌, Bool, true, false, arith, ap, vec_len}
 use Rattle.isdbt_base.specs.declared.kinds.Mode.{Mode}
 use Rattle.isdbt_base.specs.declared.kinds.Mode.TheVariants.{M1, M2, M3}
 use Rattle.isdbt_base.specs.declared.kinds.Guard.{Guard}
@@ -9,6 +9,15 @@ use Rattle.isdbt_base.specs.declared.stream.Form.TheVariants.{V1, V2}
 use Rattle.isdbt_base.specs.Numbers.{carriers, slots_per_frame}
 use Rattle.coder_core.specs.SentCells.{frame_size}
 use Rattle.seg_receiver.specs.Buffers.{largest_mode, largest_guard, CanHave, HasRoom}
+use Rattle.isdbt_base.specs.Parameters.{Parameters}
+use Rattle.std.proofs.Math.Nat.{mul-le-mul_right}
+use Rattle.isdbt_base.proofs.NumberLaws.{packets-most}
+use Rattle.seg_receiver.specs.Receiver as full
+use Rattle.seg_receiver.specs.PartialReceiver as part
+use Rattle.seg_receiver.specs.EpochReceiver.{segments_of, frame_room, IsReceiverOf}
+use Rattle.seg_receiver.specs.declared.epoch_receiver.EpochReceiver.{EpochReceiver}
+use Rattle.seg_receiver.specs.declared.epoch_receiver.EpochReceiver.TheVariants.{Full, Partial}
+use Rattle.seg_receiver.proofs.EpochParts.{segments-most}
 use Rattle.seg_receiver.specs.declared.buffers.ReceiveBuffers.{ReceiveBuffers}
 
 carriers-most : (mode : Mode) → carriers mode ≤ carriers M3
@@ -66,3 +75,28 @@ packets-fit_of form mode m guard g b same_mode same_guard can has =
     let k = ap (slots_per_frame mode) same_guard in
     let fits = packets-fit form mode guard b can has in
     omega (arith, e, k, fits)
+
+-- ---- receivers
+
+carriers-below_slots : (mode : Mode) (guard : Guard) → carriers mode ≤ slots_per_frame mode guard
+carriers-below_slots mode guard = search rules
+
+-- the buffers have room for what a receiver gives out
+pub room-fits : (form : Form) (partial : Bool) (mode : Mode) (guard : Guard) (s : Parameters) (r : EpochReceiver) (b : ReceiveBuffers) → IsReceiverOf partial mode guard s r → CanHave form mode guard → HasRoom form b → frame_room r ≤ vec_len b.out
+room-fits form false mode guard s (Full r) b is can has = packets-fit_of form mode (full.mode_of r) guard (full.guard_of r) b is.0 is.1 can has
+room-fits form false mode guard s (Partial r) b is can has = absurd is
+room-fits form true mode guard s (Full r) b is can has = absurd is
+room-fits form true mode guard s (Partial r) b is can has =
+    let few = packets-most (part.mode_of r) (part.layer_of r) in
+    let one : 63 * carriers (part.mode_of r) * (part.layer_of r).segments ≡ 63 * carriers (part.mode_of r) * 1 = ap (λ n. 63 * carriers (part.mode_of r) * n) r.one_segment in
+    let same = ap carriers is.0 in
+    let below = carriers-below_slots mode guard in
+    let fits = packets-fit form mode guard b can has in
+    omega (arith, few, one, same, below, fits)
+
+-- and for the cells that it takes of a symbol
+pub cells-fit_of : (form : Form) (mode : Mode) (guard : Guard) (r : EpochReceiver) (b : ReceiveBuffers) → CanHave form mode guard → HasRoom form b → segments_of r * carriers mode ≤ vec_len b.cells
+cells-fit_of form mode guard r b can has =
+    let most = mul-le-mul_right (carriers mode) (segments-most r) in
+    let fits = cells-fit form mode guard b can has in
+    omega (arith, most, fits)

@@ -1,5 +1,5 @@
 -- The receiver of an epoch: what its parts give out.
-use Rattle.std.proofs.Common.{◌≡◌, ℕ, ◌+◌, ◌*◌, ◌<◌, Bool, true, false, List, [], refl, ap, sym, ◌∙◌, arith}
+use Rattle.std.proofs.Common.{◌≡◌, ℕ, ◌+◌, ◌*◌, ◌≤◌, ◌<◌, Bool, true, false, List, [], refl, ap, sym, ◌∙◌, arith}
 use Rattle.std.specs.Prelude.{nat_le, slice_get, if◌then◌else◌}
 use Rattle.isdbt_base.specs.declared.kinds.Mode.{Mode}
 use Rattle.isdbt_base.specs.declared.kinds.Guard.{Guard}
@@ -16,9 +16,10 @@ use Rattle.seg_receiver.specs.Receiver as full
 use Rattle.seg_receiver.specs.Receiver.{IsSymbolOf}
 use Rattle.seg_receiver.specs.PartialReceiver as part
 use Rattle.seg_receiver.specs.PartialReceiver.{AreSegmentCells}
-use Rattle.seg_receiver.specs.EpochReceiver.{IsReceiverOf, epoch_frame}
+use Rattle.seg_receiver.specs.EpochReceiver.{mode_of, segments_of, IsReceiverOf, epoch_frame}
 use Rattle.seg_receiver.specs.declared.receiver.Receiver.{Receiver}
 use Rattle.seg_receiver.specs.declared.partial_receiver.PartialReceiver.{PartialReceiver}
+use Rattle.seg_receiver.specs.declared.epoch_receiver.EpochReceiver.{EpochReceiver}
 use Rattle.seg_receiver.specs.declared.epoch_receiver.EpochReceiver.TheVariants.{Full, Partial}
 
 -- the cells of the first segment
@@ -47,3 +48,15 @@ part-frame true mode guard s r cell start h tag is =
 -- none before the delay
 pub none-before : (mode : Mode) (l : LayerParameters) (cell : ℕ → ℕ → ℕ → Cell) (start h : ℕ) → false ≡ nat_le (layer_delay mode l) h → [] ≡ partial_packets mode l cell start h
 none-before mode l cell start h before = sym (rw (sym before) refl)
+
+-- ---- what a receiver of an epoch is
+
+pub mode-is : (partial : Bool) (mode : Mode) (guard : Guard) (s : Parameters) (r : EpochReceiver) → IsReceiverOf partial mode guard s r → mode_of r ≡ mode
+mode-is false mode guard s (Full r) is = is.0
+mode-is false mode guard s (Partial r) is = absurd is
+mode-is true mode guard s (Full r) is = absurd is
+mode-is true mode guard s (Partial r) is = is.0
+
+pub segments-most : (r : EpochReceiver) → segments_of r ≤ 13
+segments-most (Full r) = omega arith
+segments-most (Partial r) = omega arith

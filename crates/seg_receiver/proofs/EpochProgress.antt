@@ -20,21 +20,21 @@ use Rattle.tmcc_word.proofs.Accepted.{read-fits}
 use Rattle.coder_core.specs.SentCells.{frame_size}
 use Rattle.seg_receiver.specs.declared.fault.ReceiveFault.{ReceiveFault}
 use Rattle.seg_receiver.specs.declared.fault.ReceiveFault.TheVariants.{BadTmcc, Unannounced}
-use Rattle.seg_receiver.specs.declared.receiver.Receiver.{Receiver}
-use Rattle.seg_receiver.specs.CellStream.{View}
+use Rattle.seg_receiver.specs.declared.epoch_receiver.EpochReceiver.{EpochReceiver}
+use Rattle.seg_receiver.specs.CellStream.{View, segment_cells}
 use Rattle.seg_receiver.specs.Epochs.{countdown_read, epoch_start, epoch_head}
-use Rattle.seg_receiver.specs.Received.{setting_packet, word_packet, received_packets, tag_read, word_frame, received_frame}
+use Rattle.seg_receiver.specs.Received.{setting_packet, word_packet, received_packets, tag_read, word_frame, received_frame, partial_packets, word_partial, partial_frame}
 use Rattle.seg_receiver.specs.ReceiveRefusals.{expected, is_expected, behind_refusal, part_refusal, word_refusal}
 use Rattle.seg_receiver.specs.ReceiveAnswers.{given_frame, receive_command}
-use Rattle.seg_receiver.specs.Receiver.{setting_of, StandsFor}
-use Rattle.seg_receiver.specs.EpochAnswers.{epoch_frame, Progress, HeadTaken, DueIn, Taken, AtEpoch, InEpoch}
+use Rattle.seg_receiver.specs.EpochReceiver.{IsReceiverOf, StandsFor, epoch_frame}
+use Rattle.seg_receiver.specs.EpochAnswers.{tag_of, Progress, HeadTaken, DueIn, Taken, AtEpoch, InEpoch}
 use Rattle.seg_receiver.proofs.SameSettings.{same-equal}
 use Rattle.seg_receiver.proofs.ReceiveProgress.{begin, next}
 use Rattle.seg_receiver.proofs.ViewLaws.{IsLaid}
 
 -- a receiver stands for the epoch that begins at a frame, up to frame f
-pub record Going (r : Receiver) (v : View) (partial : Bool) (stream : List ℕ) (limit start f : ℕ) (said : Mode × Guard) (word : TmccFields × Bool) (left before now : Option (List ℕ)) : Type 0 where
-  pub setting : setting_of r ≡ word.0.now
+pub record Going (r : EpochReceiver) (v : View) (partial : Bool) (stream : List ℕ) (limit start f : ℕ) (said : Mode × Guard) (word : TmccFields × Bool) (left before now : Option (List ℕ)) : Type 0 where
+  pub kind : IsReceiverOf partial said.0 said.1 word.0.now r
   pub stands : StandsFor r v.cell start (f - start)
   pub from : start < f
   pub so_far : InEpoch v partial stream limit start f said word left before now
@@ -81,7 +81,7 @@ module _ (v : View) where
       ∙ ap (λ u. setting_packet (v.mode f) v.cell u f word.0.now x j (layer_of word.0.now x)) begun
 
   frame-is : (f start h : ℕ) (word : TmccFields × Bool) (first : Bool) → read (v.word f) ≡ Ok word → epoch_start v.word f ≡ start → start + h ≡ f → (start == f) ≡ first
-      → received_frame v f ≡ epoch_frame (v.mode f) (v.guard f) word.0.now v.cell start h word first
+      → received_frame v f ≡ epoch_frame false (v.mode f) (v.guard f) word.0.now v.cell start h (tag_of word first)
   unfolding received_frame
   frame-is f start h word first is begun place same =
       let mode = v.mode f in
@@ -94,14 +94,26 @@ module _ (v : View) where
       (λ m inside. packet-is f start word m.layer m.index is begun ∙ ap (λ g. setting_packet mode v.cell start g word.0.now m.layer m.index (layer_of word.0.now m.layer)) (sym place))
       ∙ ap (λ b. ordered_frame mode guard word.0.now (record { odd = word.1; first = b; start_up = word.0.start_up; countdown = word.0.countdown }) null_packet due) same
 
-  pub is-given : (f start h : ℕ) (word : TmccFields × Bool) (first : Bool) (m : Mode) (g : Guard) (s : Parameters) → m ≡ v.mode f → g ≡ v.guard f → s ≡ word.0.now
+  part-is : (f start h : ℕ) (word : TmccFields × Bool) → read (v.word f) ≡ Ok word → epoch_start v.word f ≡ start → start + h ≡ f
+      → partial_frame v f ≡ partial_packets (v.mode f) word.0.now.a (segment_cells v.cell) start h
+  unfolding partial_frame
+  part-is f start h word is begun place =
+      ap (word_partial (v.mode f) (segment_cells v.cell) (epoch_start v.word f) f) is
+      ∙ ap (λ u. partial_packets (v.mode f) word.0.now.a (segment_cells v.cell) u (f - u)) begun
+      ∙ ap (partial_packets (v.mode f) word.0.now.a (segment_cells v.cell) start) (let e : f - start ≡ h = omega (arith, place) in e)
+
+  given-is : (partial : Bool) (f start h : ℕ) (word : TmccFields × Bool) (first : Bool) → read (v.word f) ≡ Ok word → epoch_start v.word f ≡ start → start + h ≡ f → (start == f) ≡ first
+      → given_frame v partial f ≡ epoch_frame partial (v.mode f) (v.guard f) word.0.now v.cell start h (tag_of word first)
+  given-is false f start h word first is begun place same = frame-is f start h word first is begun place same
+  given-is true f start h word first is begun place same = part-is f start h word is begun place
+
+  pub is-given : (partial : Bool) (f start h : ℕ) (said : Mode × Guard) (word : TmccFields × Bool) (first : Bool) → v.mode f ≡ said.0 → v.guard f ≡ said.1
       → read (v.word f) ≡ Ok word → epoch_start v.word f ≡ start → start + h ≡ f → (start == f) ≡ first
-      → epoch_frame m g s v.cell start h word first ≡ given_frame v false f
-  is-given f start h word first m g s mode_is guard_is setting_is is begun place same =
-      ap (λ m. epoch_frame m g s v.cell start h word first) mode_is
-      ∙ ap (λ g. epoch_frame (v.mode f) g s v.cell start h word first) guard_is
-      ∙ ap (λ s. epoch_frame (v.mode f) (v.guard f) s v.cell start h word first) setting_is
-      ∙ sym (frame-is f start h word first is begun place same)
+      → epoch_frame partial said.0 said.1 word.0.now v.cell start h (tag_of word first) ≡ given_frame v partial f
+  is-given partial f start h said word first mode_is guard_is is begun place same =
+      ap (λ m. epoch_frame partial m said.1 word.0.now v.cell start h (tag_of word first)) (sym mode_is)
+      ∙ ap (λ g. epoch_frame partial (v.mode f) g word.0.now v.cell start h (tag_of word first)) (sym guard_is)
+      ∙ sym (given-is partial f start h word first is begun place same)
 
 module _ (v : View) (partial : Bool) (stream : List ℕ) (limit : ℕ) where
   -- ---- where epochs begin

@@ -193,8 +193,8 @@ fn receive_held<H: Shelf, K: Sink>(
     ensures reached { AnswerRoom receive_kind (K.room sink.old) (K.written sink.new) result }
 {
     let info = word.0;
-    let opened = open_receiver(alloc, epoch.partial, &info.now, epoch.mode, epoch.guard);
-    let Ok(mut receiver) = opened else {
+    let Ok(mut receiver) = open_receiver(alloc, epoch.partial, &info.now, epoch.mode, epoch.guard)
+    else {
         return Err(ReceiveFault::NoMemory);
     };
     feed_held(

@@ -66,9 +66,9 @@ fn take_second<H: Shelf>(
 ) -> Result<Option<(Mode, Guard)>, ReceiveFault>
     requires is_open { H.is_open shelf.old seats.In ≡ true }
     ensures still_open { H.is_open shelf.new ≡ H.is_open shelf.old }
-    ensures answer { (stream : List ℕ) (limit : ℕ) (last : Option (TmccFields × Bool)) (first now : Option (List ℕ)) → number < limit
-        → Progress (second_version stream) false stream limit number last (H.left shelf.old seats.In) first now → second_due stream number ≡ due
-        → HeadAnswer (second_version stream) false stream limit number first now (H.left shelf.new seats.In) result }
+    ensures answer { (partial : Bool) (stream : List ℕ) (limit : ℕ) (last : Option (TmccFields × Bool)) (first now : Option (List ℕ)) → number < limit
+        → Progress (second_version stream) partial stream limit number last (H.left shelf.old seats.In) first now → second_due stream number ≡ due
+        → HeadAnswer (second_version stream) partial stream limit number first now (H.left shelf.new seats.In) result }
     ensures cause { ReadingCause receive_kind (H.faults shelf.old) (H.faults shelf.new) result }
 {
     let mut head = [0; HEAD_BYTES];
@@ -102,9 +102,9 @@ pub fn take_head<H: Shelf>(
     requires is_open { H.is_open shelf.old seats.In ≡ true }
     ensures still_open { H.is_open shelf.new ≡ H.is_open shelf.old }
     ensures can_have { IfOk result (λ o. IfSome o (λ said. CanHave form said.0 said.1)) }
-    ensures answer { (stream : List ℕ) (limit : ℕ) (last : Option (TmccFields × Bool)) (first now : Option (List ℕ)) → number < limit
-        → Progress (view_of form stream) false stream limit number last (H.left shelf.old seats.In) first now → DueIn (view_of form stream) number due
-        → HeadAnswer (view_of form stream) false stream limit number first now (H.left shelf.new seats.In) result }
+    ensures answer { (partial : Bool) (stream : List ℕ) (limit : ℕ) (last : Option (TmccFields × Bool)) (first now : Option (List ℕ)) → number < limit
+        → Progress (view_of form stream) partial stream limit number last (H.left shelf.old seats.In) first now → DueIn (view_of form stream) number due
+        → HeadAnswer (view_of form stream) partial stream limit number first now (H.left shelf.new seats.In) result }
     ensures cause { ReadingCause receive_kind (H.faults shelf.old) (H.faults shelf.new) result }
 {
     match form {

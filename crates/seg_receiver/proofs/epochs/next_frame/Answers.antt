@@ -1,12 +1,15 @@
-use Rattle.std.proofs.Common.{◌≡◌, ◌+◌, ℕ, false, List, length, drop, vec_len, sym, subst, ◌∙◌, Ok, Err, Some, None, IfOk, IfSome}
+use Rattle.std.proofs.Common.{◌≡◌, ◌+◌, ◌*◌, ◌≤◌, arith, ℕ, false, List, length, drop, vec_len, sym, subst, ◌∙◌, Ok, Err, Some, None, IfOk, IfSome}
 use Rattle.std.specs.declared.option.Option.{Option}
 use Rattle.std.proofs.lemmas.List.{take_at}
 use Rattle.isdbt_base.specs.declared.kinds.Mode.{Mode}
 use Rattle.isdbt_base.specs.declared.kinds.Guard.{Guard}
 use Rattle.edge_io.specs.declared.shelf.Seat.TheVariants as seats
 use Rattle.seg_receiver.specs.CellStream.{view_of}
-use Rattle.seg_receiver.specs.Receiver.{StandsFor}
+use Rattle.seg_receiver.specs.EpochReceiver.{StandsFor}
 use Rattle.seg_receiver.specs.EpochAnswers.{HeadTaken, HeadAnswer, TakeAnswer, InEpoch}
+use Rattle.isdbt_base.specs.Numbers.{carriers}
+use Rattle.seg_receiver.proofs.BufferRoom.{frame-fits, cells-fit_of}
+use Rattle.seg_receiver.proofs.EpochParts.{mode-is}
 use Rattle.seg_receiver.proofs.EpochProgress.{next_due, next_head}
 use Rattle.seg_receiver.proofs.ViewLaws.{laid}
 use Rattle.seg_receiver.proofs.epochs.next_frame.Goals as goal
@@ -14,28 +17,28 @@ use Rattle.seg_receiver.proofs.epochs.next_frame.Goals as goal
 pub returns-in-Ok-None-clause-answer : goal.returns-in-Ok-None-clause-answer
 returns-in-Ok-None-clause-answer g c = λ stream start first now so_far other.
     let e = c.args.epoch in
-    let due = next_due (view_of e.form stream) false stream e.limit start c.args.number (e.mode, e.guard) c.args.last.now _ first now so_far other in
-    let P : Option (Mode × Guard) → Type 0 = λ o. HeadAnswer (view_of e.form stream) false stream e.limit c.args.number first now (g.H.Shelf.left c.take_head.new.shelf seats.In) (Ok o) in
-    subst P c.in-Ok-None.field-0-is (c.in-Ok-None.ensures.answer stream e.limit (Some c.args.last.now) first now c.requires.below so_far.so_far due)
+    let due = next_due (view_of e.form stream) e.partial stream e.limit start c.args.number (e.mode, e.guard) c.args.last.now _ first now so_far other in
+    let P : Option (Mode × Guard) → Type 0 = λ o. HeadAnswer (view_of e.form stream) e.partial stream e.limit c.args.number first now (g.H.Shelf.left c.take_head.new.shelf seats.In) (Ok o) in
+    subst P c.in-Ok-None.field-0-is (c.in-Ok-None.ensures.answer e.partial stream e.limit (Some c.args.last.now) first now c.requires.below so_far.so_far due)
 
 pub returns-in-Err-clause-answer : goal.returns-in-Err-clause-answer
 returns-in-Err-clause-answer g c = λ stream start first now so_far other.
     let e = c.args.epoch in
-    let due = next_due (view_of e.form stream) false stream e.limit start c.args.number (e.mode, e.guard) c.args.last.now _ first now so_far other in
-    c.in-Err.ensures.answer stream e.limit (Some c.args.last.now) first now c.requires.below so_far.so_far due
+    let due = next_due (view_of e.form stream) e.partial stream e.limit start c.args.number (e.mode, e.guard) c.args.last.now _ first now so_far other in
+    c.in-Err.ensures.answer e.partial stream e.limit (Some c.args.last.now) first now c.requires.below so_far.so_far due
 
 pub returns-clause-answer : goal.returns-clause-answer
 returns-clause-answer g c = λ stream start first now so_far other.
     let e = c.args.epoch in
     let v = view_of e.form stream in
-    let due = next_due v false stream e.limit start c.args.number (e.mode, e.guard) c.args.last.now _ first now so_far other in
-    let P : Option (Mode × Guard) → Type 0 = λ o. HeadAnswer v false stream e.limit c.args.number first now (g.H.Shelf.left c.take_head.new.shelf seats.In) (Ok o) in
-    let head : P (Some c.in-Ok-Some.field-0-0) = subst P c.in-Ok-Some.field-0-is (c.in-Ok-Some.ensures.answer stream e.limit (Some c.args.last.now) first now c.requires.below so_far.so_far due) in
-    let here = next_head v false stream e.limit start c.args.number (e.mode, e.guard) c.in-Ok-Some.field-0-0 c.args.last.now _ _ first now (laid e.form stream) so_far other head in
+    let due = next_due v e.partial stream e.limit start c.args.number (e.mode, e.guard) c.args.last.now _ first now so_far other in
+    let P : Option (Mode × Guard) → Type 0 = λ o. HeadAnswer v e.partial stream e.limit c.args.number first now (g.H.Shelf.left c.take_head.new.shelf seats.In) (Ok o) in
+    let head : P (Some c.in-Ok-Some.field-0-0) = subst P c.in-Ok-Some.field-0-is (c.in-Ok-Some.ensures.answer e.partial stream e.limit (Some c.args.last.now) first now c.requires.below so_far.so_far due) in
+    let here = next_head v e.partial stream e.limit start c.args.number (e.mode, e.guard) c.in-Ok-Some.field-0-0 c.args.last.now _ _ first now (laid e.form stream) so_far other head in
     let frame = c.read_further.new.buffer in
     let size : length frame ≡ vec_len c.args.buffers.now.frame = c.read_further.auto.buffer ∙ c.deref_mut.ensures.len in
     let held = take_at frame (drop (length frame) c.args.buffers.now.frame.items) (vec_len c.args.buffers.now.frame) size in
-    let Q : List ℕ → Type 0 = λ xs. TakeAnswer v false stream e.limit c.args.number (e.mode, e.guard) (Some c.args.last.now) xs first now (g.H.Shelf.left c.read_further.new.shelf seats.In) c.read_further.result in
+    let Q : List ℕ → Type 0 = λ xs. TakeAnswer v e.partial stream e.limit c.args.number (e.mode, e.guard) (Some c.args.last.now) xs first now (g.H.Shelf.left c.read_further.new.shelf seats.In) c.read_further.result in
     subst Q (sym held) (c.read_further.ensures.answer stream e.limit _ first now c.requires.below so_far.so_far here)
 
 -- where all of a frame came, more follows
@@ -53,14 +56,29 @@ returns-clause-state g c =
     if_more
     ((stream : List ℕ) → HeadTaken (view_of e.form stream) stream number (e.mode, e.guard) (g.H.Shelf.left c.take_head.new.shelf seats.In)
     → (start h : ℕ) → start + h ≡ number → StandsFor old (view_of e.form stream).cell start h → StandsFor new (view_of e.form stream).cell start h)
-    ((stream : List ℕ) (start h : ℕ) (first now : Option (List ℕ)) → InEpoch (view_of e.form stream) false stream e.limit start number (e.mode, e.guard) c.args.last.now (g.H.Shelf.left c.args.shelf.now seats.In) first now → (c.args.last.now.0.countdown ≡ 0 → ⊥)
+    ((stream : List ℕ) (start h : ℕ) (first now : Option (List ℕ)) → InEpoch (view_of e.form stream) e.partial stream e.limit start number (e.mode, e.guard) c.args.last.now (g.H.Shelf.left c.args.shelf.now seats.In) first now → (c.args.last.now.0.countdown ≡ 0 → ⊥)
     → start + h ≡ number → StandsFor old (view_of e.form stream).cell start h → StandsFor new (view_of e.form stream).cell start h)
     c.read_further.result
     (λ state stream start h first now so_far other is stands.
     let v = view_of e.form stream in
-    let due = next_due v false stream e.limit start number (e.mode, e.guard) c.args.last.now _ first now so_far other in
-    let P : Option (Mode × Guard) → Type 0 = λ o. HeadAnswer v false stream e.limit number first now (g.H.Shelf.left c.take_head.new.shelf seats.In) (Ok o) in
-    let head : P (Some c.in-Ok-Some.field-0-0) = subst P c.in-Ok-Some.field-0-is (c.in-Ok-Some.ensures.answer stream e.limit (Some c.args.last.now) first now c.requires.below so_far.so_far due) in
-    let here = next_head v false stream e.limit start number (e.mode, e.guard) c.in-Ok-Some.field-0-0 c.args.last.now _ _ first now (laid e.form stream) so_far other head in
+    let due = next_due v e.partial stream e.limit start number (e.mode, e.guard) c.args.last.now _ first now so_far other in
+    let P : Option (Mode × Guard) → Type 0 = λ o. HeadAnswer v e.partial stream e.limit number first now (g.H.Shelf.left c.take_head.new.shelf seats.In) (Ok o) in
+    let head : P (Some c.in-Ok-Some.field-0-0) = subst P c.in-Ok-Some.field-0-is (c.in-Ok-Some.ensures.answer e.partial stream e.limit (Some c.args.last.now) first now c.requires.below so_far.so_far due) in
+    let here = next_head v e.partial stream e.limit start number (e.mode, e.guard) c.in-Ok-Some.field-0-0 c.args.last.now _ _ first now (laid e.form stream) so_far other head in
     state stream here start h is stands)
     c.read_further.ensures.state
+
+pub read_further-requires-clause-mode : goal.read_further-requires-clause-mode
+read_further-requires-clause-mode g c = mode-is c.args.epoch.partial c.args.epoch.mode c.args.epoch.guard c.requires.receiver.0 c.args.receiver.now c.requires.receiver.1
+
+pub read_further-requires-clause-size : goal.read_further-requires-clause-size
+read_further-requires-clause-size g c =
+    let fits = frame-fits c.args.epoch.form c.args.epoch.mode c.args.epoch.guard c.args.buffers.now c.requires.can_have c.requires.room in
+    let len = c.deref_mut.ensures.len in
+    omega (arith, fits, len)
+
+pub read_further-requires-clause-room : goal.read_further-requires-clause-room
+read_further-requires-clause-room g c =
+    let fits = cells-fit_of c.args.epoch.form c.args.epoch.mode c.args.epoch.guard c.args.receiver.now c.args.buffers.now c.requires.can_have c.requires.room in
+    let len = c.deref_mut-2.ensures.len in
+    omega (arith, fits, len)

@@ -1,4 +1,4 @@
-use Rattle.std.proofs.Common.{◌≡◌, ◌*◌, false, [], length, drop, ap}
+use Rattle.std.proofs.Common.{◌≡◌, ◌*◌, [], length, drop, ap}
 use Rattle.std.proofs.lemmas.List.{take_at}
 use Rattle.edge_io.specs.declared.shelf.Seat.TheVariants as seats
 use Rattle.coder_core.specs.SentCells.{frame_size}
@@ -16,12 +16,12 @@ returns-clause-answer g c = λ stream limit known first now below so_far head.
     let size : length part ≡ frame_size c.args.frame.mode = front-size c.args.buffer.now part c.symbol_size.result (frame_size c.args.frame.mode) (ap (λ n. 204 * n) c.symbol_size.ensures.value) c.requires.size c.fill.auto.buf in
     let h = c.in-Ok.ensures in
     let came = came-known c.in-Ok.count part _ _ _ head.left_is h.count h.copied h.taken in
-    take_answer (view_of form stream) stream (laid form stream) false limit c.args.frame.number (c.args.frame.mode, c.args.frame.guard) c.args.before.now known _ first now below so_far head
-    c.in-Ok.count _ part _ c.word_read.result size (take_at part (drop (204 * c.symbol_size.result) c.args.buffer.now) (frame_size c.args.frame.mode) size) came (c.word_read.ensures stream)
+    take_answer (view_of form stream) stream (laid form stream) c.args.frame.partial limit c.args.frame.number (c.args.frame.mode, c.args.frame.guard) c.args.before.now known _ first now below so_far head
+    c.in-Ok.count _ part _ c.word_read.result size (take_at part (drop (204 * c.symbol_size.result) c.args.buffer.now) (frame_size c.args.frame.mode) size) came (c.word_read.ensures.check stream)
 
 pub returns-clause-cause : goal.returns-clause-cause
 returns-clause-cause g c =
-    take_cause c.args.frame.mode (view_of c.args.frame.form []).head false c.args.frame.number c.in-Ok.count c.args.before.now c.fill.new.buf _ _ c.word_read.result (c.word_read.ensures []) c.in-Ok.ensures.cause.kept
+    take_cause c.args.frame.mode (view_of c.args.frame.form []).head c.args.frame.partial c.args.frame.number c.in-Ok.count c.args.before.now c.fill.new.buf _ _ c.word_read.result (c.word_read.ensures.check []) c.in-Ok.ensures.cause.kept
 
 pub returns-in-Err-clause-answer : goal.returns-in-Err-clause-answer
 returns-in-Err-clause-answer g c = λ stream limit known first now below so_far head.
@@ -30,4 +30,4 @@ returns-in-Err-clause-answer g c = λ stream limit known first now below so_far 
     let size : length part ≡ frame_size c.args.frame.mode = front-size c.args.buffer.now part c.symbol_size.result (frame_size c.args.frame.mode) (ap (λ n. 204 * n) c.symbol_size.ensures.value) c.requires.size c.fill.auto.buf in
     let some = c.in-Err.ensures.some in
     let stop = stopped-known some.0 part _ _ _ head.left_is some.1 some.3 some.2 in
-    stopped-behind (view_of form stream) stream (laid form stream) false limit c.args.frame.number (c.args.frame.mode, c.args.frame.guard) c.args.before.now known _ first now below so_far head seats.In part _ size stop
+    stopped-behind (view_of form stream) stream (laid form stream) c.args.frame.partial limit c.args.frame.number (c.args.frame.mode, c.args.frame.guard) c.args.before.now known _ first now below so_far head seats.In part _ size stop
