@@ -9,7 +9,7 @@ use crate::plans::{PlanRow, SINGLE, plan_of};
 use crate::streams::marked_packets;
 use coder_core::{CodeFault, code};
 use edge_io::{MemoryShelf, MemorySink, Seat, Shelf};
-use isdbt_base::{Guard, Mode, Plan, Writing};
+use isdbt_base::{Form, Guard, Mode, Plan, Reading, Writing};
 use remux_core::{RemuxFault, remux};
 use seg_receiver::{ReceiveFault, receive};
 use std::alloc::Global;
@@ -160,18 +160,28 @@ pub fn code_into(
     code_plan(alloc, &plan_of(row)?, how, &whole(stream), out)
 }
 
-/// Receives a stream of cells.
+/// Receives a stream of cells of this version.
+pub fn receive_stream(
+    alloc: Global,
+    form: Form,
+    input: &LoneInput,
+    mut out: MemorySink,
+) -> Result<ReceiveEnd, Fail> {
+    let mut shelf = lone_shelf(alloc, input)?;
+    let answer = receive(alloc, Reading { form }, LIMIT, &mut shelf, &mut out);
+    let left = left_at(alloc, &mut shelf, Seat::In, input.stream.len())?;
+    Ok(ReceiveEnd { answer, out, left })
+}
+
+/// Receives a stream of cells of version 1.
 pub fn receive_into(
     alloc: Global,
     mode: Mode,
     guard: Guard,
     cells: &[u8],
-    mut out: MemorySink,
+    out: MemorySink,
 ) -> Result<ReceiveEnd, Fail> {
-    let mut shelf = lone_shelf(alloc, &whole(cells))?;
-    let answer = receive(alloc, mode, guard, LIMIT, &mut shelf, &mut out);
-    let left = left_at(alloc, &mut shelf, Seat::In, cells.len())?;
-    Ok(ReceiveEnd { answer, out, left })
+    receive_stream(alloc, Form::V1 { mode, guard }, &whole(cells), out)
 }
 
 /// The frames of packets of layers A, B and C, and how many there are.
