@@ -50,6 +50,7 @@ fn left_at(alloc: Global, shelf: &mut MemoryShelf, seat: Seat, most: usize) -> R
     requires { is_seat_open shelf.old seat ≡ true }
 {
     let mut rest = vec![in alloc; 0; most.max(1)]?;
+    shelf.pieces(usize::MAX);
     Ok(shelf.read(seat, &mut rest)?)
 }
 
@@ -160,15 +161,19 @@ pub fn code_into(
     code_plan(alloc, &plan_of(row)?, how, &whole(stream), out)
 }
 
-/// Receives a stream of cells of this version.
+/// Receives a stream of cells of this version with a limit on frames.
 pub fn receive_stream(
     alloc: Global,
     form: Form,
+    limit: u32,
     input: &LoneInput,
     mut out: MemorySink,
-) -> Result<ReceiveEnd, Fail> {
+) -> Result<ReceiveEnd, Fail>
+    requires some { 0 < limit }
+    requires few { limit ≤ 16777216 }
+{
     let mut shelf = lone_shelf(alloc, input)?;
-    let answer = receive(alloc, Reading { form }, LIMIT, &mut shelf, &mut out);
+    let answer = receive(alloc, Reading { form }, limit, &mut shelf, &mut out);
     let left = left_at(alloc, &mut shelf, Seat::In, input.stream.len())?;
     Ok(ReceiveEnd { answer, out, left })
 }
@@ -181,7 +186,37 @@ pub fn receive_into(
     cells: &[u8],
     out: MemorySink,
 ) -> Result<ReceiveEnd, Fail> {
-    receive_stream(alloc, Form::V1 { mode, guard }, &whole(cells), out)
+    receive_stream(alloc, Form::V1 { mode, guard }, LIMIT, &whole(cells), out)
+}
+
+/// Receives a stream of cells of version 2.
+pub fn receive_headed(alloc: Global, cells: &[u8]) -> Result<ReceiveEnd, Fail> {
+    let out = MemorySink::new(alloc, ROOM)?;
+    receive_stream(alloc, Form::V2, LIMIT, &whole(cells), out)
+}
+
+/// What is sent of a plan: frames of broadcast packets, and their cells.
+#[derive(Drop)]
+pub struct Sent {
+    pub packets: MemorySink,
+    pub cells: MemorySink,
+}
+
+/// Sends the packets of layers A, B and C by a plan, in a version of the stream of cells.
+pub fn send(alloc: Global, plan: &Plan, how: Writing, layers: [&[u8]; 3]) -> Result<Sent, Fail> {
+    let inputs = LayerInputs {
+        layers,
+        fails_from: u64::MAX,
+    };
+    let sent = remux_plan(alloc, plan, &inputs, LIMIT, MemorySink::new(alloc, ROOM)?)?;
+    sent.answer?;
+    let out = MemorySink::new(alloc, ROOM)?;
+    let coded = code_plan(alloc, plan, how, &whole(sent.out.bytes()), out)?;
+    coded.answer?;
+    Ok(Sent {
+        packets: sent.out,
+        cells: coded.out,
+    })
 }
 
 /// The frames of packets of layers A, B and C, and how many there are.
