@@ -204,15 +204,16 @@ pub fn run<H: Shelf, K: Sink, E: Sink>(
     ensures code_near { (p : Schedule) (how : SomeWriting) (name : Word) (input : List ℕ) (m : ℕ) → Spells words.now (code p how name) → H.holds shelf.old name ≡ Some input → IsBytes input
         → result ≡ Outcome.Done m → WroteNear how p input m (K.written out.old) (K.written out.new) }
 
-    // Cells that are near those of a plan and no fault of the outside: the packets of the plan's frames, each put off by its
-    // layer's delay, and no others, or no memory.
+    // Cells that are near those of a plan, in either version of the stream, and no fault of the outside: the packets of the
+    // plan's frames, each put off by its layer's delay, and no others, or no memory.
     ensures receive_near { (p : Schedule) (frames : FramePackets) (count : ℕ) (form : SomeForm) (name : Word) (stream : List ℕ) → Spells words.now (receive form name)
         → H.holds shelf.old name ≡ Some stream → IsPlan p → ArePackets p frames count → IsNear (view_of form stream) p frames count → count ≤ frame_limit
         → NothingRose (lone_name name) (H.faults shelf.old) (H.faults shelf.new) (K.faults out.old) (K.faults out.new)
         → IsDoneWith count (delivered p frames count) (K.written out.old) (K.written out.new) result }
 
-    // Three facts of the commands, whatever the words are. A view that is near a plan is received as what is delivered of it:
-    // so after a failed read or write too what was written is a front part of the delivered stream.
+    // Three facts of the commands, whatever the words are. A view that is near a plan, whose frames stand in a row and of
+    // which no head is refused, is received as what is delivered of it: so after a failed read or write too what was written
+    // is a front part of the delivered stream. A stream of either version that is near a plan is such a view.
     ensures near_received { (v : SomeView) (p : Schedule) (frames : FramePackets) (count : ℕ) → IsPlan p → AreInRow v count → NoBadHead v count → ArePackets p frames count → IsNear v p frames count
         → count ≤ frame_limit → IsReceivedAs v p frames count }
 
