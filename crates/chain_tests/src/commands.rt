@@ -9,7 +9,7 @@ use crate::plans::{PlanRow, SINGLE, plan_of};
 use crate::streams::marked_packets;
 use coder_core::{CodeFault, code};
 use edge_io::{MemoryShelf, MemorySink, Seat, Shelf};
-use isdbt_base::{Guard, Mode, Plan, Writing};
+use isdbt_base::{Form, Guard, Mode, Plan, Reading, Writing};
 use remux_core::{RemuxFault, remux};
 use seg_receiver::{ReceiveFault, receive};
 use std::alloc::Global;
@@ -50,6 +50,7 @@ fn left_at(alloc: Global, shelf: &mut MemoryShelf, seat: Seat, most: usize) -> R
     requires { is_seat_open shelf.old seat ≡ true }
 {
     let mut rest = vec![in alloc; 0; most.max(1)]?;
+    shelf.pieces(usize::MAX);
     Ok(shelf.read(seat, &mut rest)?)
 }
 
@@ -160,18 +161,62 @@ pub fn code_into(
     code_plan(alloc, &plan_of(row)?, how, &whole(stream), out)
 }
 
-/// Receives a stream of cells.
+/// Receives a stream of cells of this version with a limit on frames.
+pub fn receive_stream(
+    alloc: Global,
+    form: Form,
+    limit: u32,
+    input: &LoneInput,
+    mut out: MemorySink,
+) -> Result<ReceiveEnd, Fail>
+    requires some { 0 < limit }
+    requires few { limit ≤ 16777216 }
+{
+    let mut shelf = lone_shelf(alloc, input)?;
+    let answer = receive(alloc, Reading { form }, limit, &mut shelf, &mut out);
+    let left = left_at(alloc, &mut shelf, Seat::In, input.stream.len())?;
+    Ok(ReceiveEnd { answer, out, left })
+}
+
+/// Receives a stream of cells of version 1.
 pub fn receive_into(
     alloc: Global,
     mode: Mode,
     guard: Guard,
     cells: &[u8],
-    mut out: MemorySink,
+    out: MemorySink,
 ) -> Result<ReceiveEnd, Fail> {
-    let mut shelf = lone_shelf(alloc, &whole(cells))?;
-    let answer = receive(alloc, mode, guard, LIMIT, &mut shelf, &mut out);
-    let left = left_at(alloc, &mut shelf, Seat::In, cells.len())?;
-    Ok(ReceiveEnd { answer, out, left })
+    receive_stream(alloc, Form::V1 { mode, guard }, LIMIT, &whole(cells), out)
+}
+
+/// Receives a stream of cells of version 2.
+pub fn receive_headed(alloc: Global, cells: &[u8]) -> Result<ReceiveEnd, Fail> {
+    let out = MemorySink::new(alloc, ROOM)?;
+    receive_stream(alloc, Form::V2, LIMIT, &whole(cells), out)
+}
+
+/// What is sent of a plan: frames of broadcast packets, and their cells.
+#[derive(Drop)]
+pub struct Sent {
+    pub packets: MemorySink,
+    pub cells: MemorySink,
+}
+
+/// Sends the packets of layers A, B and C by a plan, in a version of the stream of cells.
+pub fn send(alloc: Global, plan: &Plan, how: Writing, layers: [&[u8]; 3]) -> Result<Sent, Fail> {
+    let inputs = LayerInputs {
+        layers,
+        fails_from: u64::MAX,
+    };
+    let sent = remux_plan(alloc, plan, &inputs, LIMIT, MemorySink::new(alloc, ROOM)?)?;
+    sent.answer?;
+    let out = MemorySink::new(alloc, ROOM)?;
+    let coded = code_plan(alloc, plan, how, &whole(sent.out.bytes()), out)?;
+    coded.answer?;
+    Ok(Sent {
+        packets: sent.out,
+        cells: coded.out,
+    })
 }
 
 /// The frames of packets of layers A, B and C, and how many there are.

@@ -1,9 +1,10 @@
-//! Plans with switches, and what `remux` writes of their inputs, as rows of tables.
+//! Plans with switches, what `remux` writes of their inputs and what is received of it, as rows of tables.
 
-use crate::plans::{DEEP, LayerRow, PARTIAL_AND_WIDE, PLAIN, PlanRow, SINGLE, SwitchRow};
-use edge_io::Seat;
-use isdbt_base::{DepthCode, Guard, Mode, Modulation, Rate};
-use remux_core::RemuxFault;
+use crate::plans::{
+    DEEP, PARTIAL_AND_WIDE, PlanRow, SECOND_MODE, SHALLOW, SINGLE, SwitchRow, THREE_DEEP,
+    THREE_QUARTERS, THREE_SHALLOW,
+};
+use isdbt_base::{Guard, Mode};
 
 /// Frames one behind the other: how many, their slots, and the input packets of each layer in each of them.
 pub struct FramesRow {
@@ -12,53 +13,27 @@ pub struct FramesRow {
     pub placed: [usize; 3],
 }
 
-/// A plan with switches, the packets of each layer's input, and the frames that are written.
+/// The frames of an epoch that are there: how many, their slots, and how many frames late each layer's packets are received.
+#[derive(Clone, Copy)]
+pub struct DelaysRow {
+    pub frames: usize,
+    pub slots: usize,
+    pub delays: [usize; 3],
+}
+
+/// A plan with switches, the packets of each layer's input, the frames that are written, and its epochs.
 pub struct EpochsRow {
     pub first: PlanRow,
     pub switches: &'static [SwitchRow],
     pub packets: [usize; 3],
     pub frames: &'static [FramesRow],
+    pub epochs: &'static [DelaysRow],
 }
 
-/// Rate 3/4 with time interleaving, of 234 packets a frame.
-pub const THREE_QUARTERS: PlanRow = PlanRow {
-    layers: &[LayerRow {
-        rate: Rate::R34,
-        depth: DepthCode::D1,
-        ..PLAIN
-    }],
-    ..SINGLE
-};
-
-/// The single layer in mode 2 with guard interval 1/8, of 312 packets a frame.
-pub const SECOND_MODE: PlanRow = PlanRow {
-    mode: Mode::M2,
-    guard: Guard::G8,
-    ..SINGLE
-};
-
-/// The partial and the wide layer without time interleaving, with delays of 2 frames.
-pub const SHALLOW: PlanRow = PlanRow {
-    layers: &[
-        LayerRow {
-            segments: 1,
-            modulation: Modulation::Qpsk,
-            rate: Rate::R23,
-            depth: DepthCode::D0,
-        },
-        LayerRow {
-            segments: 12,
-            modulation: Modulation::Qam64,
-            rate: Rate::R34,
-            depth: DepthCode::D0,
-        },
-    ],
-    ..PARTIAL_AND_WIDE
-};
-
 /// An announced switch; a mode that changes; empty inputs; a switch one frame after another; an epoch shorter than the delay;
-/// two layers with delays of their own.
-pub const EPOCHS: [EpochsRow; 6] = [
+/// two layers with delays of their own; three layers from deep time interleaving to none, over all modes, with an epoch of
+/// one frame.
+pub const EPOCHS: [EpochsRow; 7] = [
     EpochsRow {
         first: SINGLE,
         switches: &[SwitchRow {
@@ -86,6 +61,18 @@ pub const EPOCHS: [EpochsRow; 6] = [
                 frames: 4,
                 slots: 1280,
                 placed: [0, 0, 0],
+            },
+        ],
+        epochs: &[
+            DelaysRow {
+                frames: 20,
+                slots: 1280,
+                delays: [2, 0, 0],
+            },
+            DelaysRow {
+                frames: 5,
+                slots: 1280,
+                delays: [4, 0, 0],
             },
         ],
     },
@@ -118,6 +105,18 @@ pub const EPOCHS: [EpochsRow; 6] = [
                 placed: [0, 0, 0],
             },
         ],
+        epochs: &[
+            DelaysRow {
+                frames: 4,
+                slots: 1280,
+                delays: [2, 0, 0],
+            },
+            DelaysRow {
+                frames: 3,
+                slots: 2304,
+                delays: [2, 0, 0],
+            },
+        ],
     },
     EpochsRow {
         first: SINGLE,
@@ -142,6 +141,18 @@ pub const EPOCHS: [EpochsRow; 6] = [
                 frames: 2,
                 slots: 2304,
                 placed: [0, 0, 0],
+            },
+        ],
+        epochs: &[
+            DelaysRow {
+                frames: 3,
+                slots: 1280,
+                delays: [2, 0, 0],
+            },
+            DelaysRow {
+                frames: 2,
+                slots: 2304,
+                delays: [2, 0, 0],
             },
         ],
     },
@@ -185,6 +196,23 @@ pub const EPOCHS: [EpochsRow; 6] = [
                 placed: [0, 0, 0],
             },
         ],
+        epochs: &[
+            DelaysRow {
+                frames: 3,
+                slots: 1280,
+                delays: [2, 0, 0],
+            },
+            DelaysRow {
+                frames: 1,
+                slots: 1280,
+                delays: [4, 0, 0],
+            },
+            DelaysRow {
+                frames: 8,
+                slots: 1280,
+                delays: [2, 0, 0],
+            },
+        ],
     },
     EpochsRow {
         first: DEEP,
@@ -208,6 +236,18 @@ pub const EPOCHS: [EpochsRow; 6] = [
                 frames: 2,
                 slots: 1280,
                 placed: [0, 0, 0],
+            },
+        ],
+        epochs: &[
+            DelaysRow {
+                frames: 5,
+                slots: 1280,
+                delays: [10, 0, 0],
+            },
+            DelaysRow {
+                frames: 3,
+                slots: 1280,
+                delays: [2, 0, 0],
             },
         ],
     },
@@ -250,10 +290,98 @@ pub const EPOCHS: [EpochsRow; 6] = [
                 placed: [0, 0, 0],
             },
         ],
+        epochs: &[
+            DelaysRow {
+                frames: 6,
+                slots: 4608,
+                delays: [4, 3, 0],
+            },
+            DelaysRow {
+                frames: 4,
+                slots: 4608,
+                delays: [2, 2, 0],
+            },
+        ],
+    },
+    EpochsRow {
+        first: THREE_DEEP,
+        switches: &[
+            SwitchRow {
+                frame: 12,
+                to: PlanRow {
+                    mode: Mode::M2,
+                    guard: Guard::G16,
+                    ..THREE_SHALLOW
+                },
+            },
+            SwitchRow {
+                frame: 13,
+                to: PlanRow {
+                    mode: Mode::M3,
+                    guard: Guard::G32,
+                    ..THREE_SHALLOW
+                },
+            },
+        ],
+        packets: [40, 600, 3500],
+        frames: &[
+            FramesRow {
+                frames: 2,
+                slots: 1280,
+                placed: [16, 96, 432],
+            },
+            FramesRow {
+                frames: 4,
+                slots: 1280,
+                placed: [0, 96, 432],
+            },
+            FramesRow {
+                frames: 2,
+                slots: 1280,
+                placed: [0, 0, 432],
+            },
+            FramesRow {
+                frames: 4,
+                slots: 1280,
+                placed: [0, 0, 0],
+            },
+            FramesRow {
+                frames: 1,
+                slots: 2176,
+                placed: [0, 0, 0],
+            },
+            FramesRow {
+                frames: 1,
+                slots: 4224,
+                placed: [8, 24, 44],
+            },
+            FramesRow {
+                frames: 2,
+                slots: 4224,
+                placed: [0, 0, 0],
+            },
+        ],
+        epochs: &[
+            DelaysRow {
+                frames: 12,
+                slots: 1280,
+                delays: [10, 6, 4],
+            },
+            DelaysRow {
+                frames: 1,
+                slots: 2176,
+                delays: [2, 2, 2],
+            },
+            DelaysRow {
+                frames: 3,
+                slots: 4224,
+                delays: [2, 2, 2],
+            },
+        ],
     },
 ];
 
-/// The frames that are received: each packet as many frames later as its delay, which is 2 and then 4.
+/// The frames that are received of the announced switch: each packet as many frames later as its delay, which is 2 and then 4.
 pub const RECEIVED: [FramesRow; 4] = [
     FramesRow {
         frames: 2,
@@ -277,178 +405,26 @@ pub const RECEIVED: [FramesRow; 4] = [
     },
 ];
 
-/// A single layer with a switch to the same at frame 3: the packets of layer A, the limit on frames, the byte from which on
-/// a read fails; the answer, the frames that are written, and the bytes of layer A's input that are left.
-pub struct EndRow {
-    pub packets: usize,
-    pub limit: u32,
-    pub fails_from: u64,
-    pub answer: Result<u32, RemuxFault>,
-    pub frames: usize,
-    pub left: usize,
-}
-
-/// Of each frame before the switch the first alone has packets, 156 of them: 29,328 bytes. The limit within an epoch that isn't
-/// the last, at the start of the last one (where a byte is asked for), behind a frame with packets, within the null packets
-/// behind, and past the end; then reads that fail in the second epoch, and where that byte is asked for.
-pub const ENDS: [EndRow; 12] = [
-    EndRow {
-        packets: 200,
-        limit: 2,
-        fails_from: u64::MAX,
-        answer: Err(RemuxFault::TooLong),
+/// The frames that are received where the mode changes: the delay is 2 in both epochs.
+pub const RECEIVED_MODES: [FramesRow; 4] = [
+    FramesRow {
         frames: 2,
-        left: 44 * 188,
+        slots: 1280,
+        placed: [0, 0, 0],
     },
-    EndRow {
-        packets: 156,
-        limit: 2,
-        fails_from: u64::MAX,
-        answer: Err(RemuxFault::TooLong),
+    FramesRow {
         frames: 2,
-        left: 0,
+        slots: 1280,
+        placed: [156, 0, 0],
     },
-    EndRow {
-        packets: 200,
-        limit: 3,
-        fails_from: u64::MAX,
-        answer: Err(RemuxFault::TooLong),
-        frames: 3,
-        left: 44 * 188 - 1,
-    },
-    EndRow {
-        packets: 156,
-        limit: 3,
-        fails_from: u64::MAX,
-        answer: Ok(3),
-        frames: 3,
-        left: 0,
-    },
-    EndRow {
-        packets: 0,
-        limit: 3,
-        fails_from: u64::MAX,
-        answer: Ok(3),
-        frames: 3,
-        left: 0,
-    },
-    EndRow {
-        packets: 200,
-        limit: 4,
-        fails_from: u64::MAX,
-        answer: Err(RemuxFault::TooLong),
-        frames: 4,
-        left: 0,
-    },
-    EndRow {
-        packets: 200,
-        limit: 5,
-        fails_from: u64::MAX,
-        answer: Err(RemuxFault::TooLong),
-        frames: 5,
-        left: 0,
-    },
-    EndRow {
-        packets: 200,
-        limit: 6,
-        fails_from: u64::MAX,
-        answer: Ok(6),
-        frames: 6,
-        left: 0,
-    },
-    EndRow {
-        packets: 156,
-        limit: 10,
-        fails_from: u64::MAX,
-        answer: Ok(3),
-        frames: 3,
-        left: 0,
-    },
-    EndRow {
-        packets: 200,
-        limit: 10,
-        fails_from: 29_328,
-        answer: Err(RemuxFault::ReadFault(Seat::A)),
-        frames: 3,
-        left: 44 * 188,
-    },
-    EndRow {
-        packets: 200,
-        limit: 10,
-        fails_from: 29_329,
-        answer: Err(RemuxFault::ReadFault(Seat::A)),
-        frames: 3,
-        left: 0,
-    },
-    EndRow {
-        packets: 156,
-        limit: 3,
-        fails_from: 29_328,
-        answer: Err(RemuxFault::ReadFault(Seat::A)),
-        frames: 3,
-        left: 0,
-    },
-];
-
-/// What is wrong with the input of 200 packets: the packet that has no sync byte, the bytes that are missing at its end, the byte
-/// of the output from which on a write fails; and the answer, the frames that are written, and the bytes that are left.
-pub struct WrongRow {
-    pub packet: usize,
-    pub missing: usize,
-    pub writes_until: u64,
-    pub answer: RemuxFault,
-    pub frames: usize,
-    pub left: usize,
-}
-
-pub const WRONG: [WrongRow; 5] = [
-    WrongRow {
-        packet: 170,
-        missing: 0,
-        writes_until: u64::MAX,
-        answer: RemuxFault::BadSync {
-            seat: Seat::A,
-            packet: 170,
-        },
-        frames: 3,
-        left: 0,
-    },
-    WrongRow {
-        packet: 155,
-        missing: 0,
-        writes_until: u64::MAX,
-        answer: RemuxFault::BadSync {
-            seat: Seat::A,
-            packet: 155,
-        },
-        frames: 0,
-        left: 44 * 188,
-    },
-    WrongRow {
-        packet: 1000,
-        missing: 3,
-        writes_until: u64::MAX,
-        answer: RemuxFault::Truncated {
-            seat: Seat::A,
-            over: 185,
-        },
-        frames: 3,
-        left: 0,
-    },
-    WrongRow {
-        packet: 1000,
-        missing: 0,
-        writes_until: 3 * 261_120,
-        answer: RemuxFault::WriteFault,
-        frames: 3,
-        left: 0,
-    },
-    WrongRow {
-        packet: 1000,
-        missing: 0,
-        writes_until: 2 * 261_120,
-        answer: RemuxFault::WriteFault,
+    FramesRow {
         frames: 2,
-        left: 44 * 188,
+        slots: 2304,
+        placed: [0, 0, 0],
+    },
+    FramesRow {
+        frames: 1,
+        slots: 2304,
+        placed: [88, 0, 0],
     },
 ];

@@ -7,17 +7,27 @@ mod code_tests;
 #[cfg(test)]
 mod commands;
 #[cfg(test)]
+mod end_rows;
+#[cfg(test)]
 mod epoch_rows;
 #[cfg(test)]
 mod epoch_tests;
+#[cfg(test)]
+mod head_rows;
+#[cfg(test)]
+mod head_tests;
 #[cfg(test)]
 mod model_rows;
 #[cfg(test)]
 mod model_tests;
 #[cfg(test)]
+mod placed;
+#[cfg(test)]
 mod plans;
 #[cfg(test)]
 mod receive_tests;
+#[cfg(test)]
+mod received_tests;
 #[cfg(test)]
 mod remux_tests;
 #[cfg(test)]

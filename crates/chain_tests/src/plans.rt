@@ -86,6 +86,89 @@ pub const TWO_LAYERS: PlanRow = PlanRow {
     ..SINGLE
 };
 
+/// Rate 3/4 with time interleaving, of 234 packets a frame.
+pub const THREE_QUARTERS: PlanRow = PlanRow {
+    layers: &[LayerRow {
+        rate: Rate::R34,
+        depth: DepthCode::D1,
+        ..PLAIN
+    }],
+    ..SINGLE
+};
+
+/// The single layer in mode 2 with guard interval 1/8, of 312 packets a frame.
+pub const SECOND_MODE: PlanRow = PlanRow {
+    mode: Mode::M2,
+    guard: Guard::G8,
+    ..SINGLE
+};
+
+/// One segment of QPSK.
+const NARROW: LayerRow = LayerRow {
+    segments: 1,
+    rate: Rate::R23,
+    ..PLAIN
+};
+
+/// Four segments of 16QAM.
+const MIDDLE: LayerRow = LayerRow {
+    segments: 4,
+    modulation: Modulation::Qam16,
+    ..PLAIN
+};
+
+/// Eight segments of 64QAM.
+const WIDE: LayerRow = LayerRow {
+    segments: 8,
+    modulation: Modulation::Qam64,
+    rate: Rate::R34,
+    ..PLAIN
+};
+
+/// The partial and the wide layer without time interleaving, with delays of 2 frames.
+pub const SHALLOW: PlanRow = PlanRow {
+    layers: &[
+        LayerRow {
+            segments: 1,
+            modulation: Modulation::Qpsk,
+            rate: Rate::R23,
+            depth: DepthCode::D0,
+        },
+        LayerRow {
+            segments: 12,
+            modulation: Modulation::Qam64,
+            rate: Rate::R34,
+            depth: DepthCode::D0,
+        },
+    ],
+    ..PARTIAL_AND_WIDE
+};
+
+/// Three layers with time interleaving, the first with the deepest, of 16, 96 and 432 packets a frame.
+pub const THREE_DEEP: PlanRow = PlanRow {
+    layers: &[
+        LayerRow {
+            depth: DepthCode::D3,
+            ..NARROW
+        },
+        LayerRow {
+            depth: DepthCode::D2,
+            ..MIDDLE
+        },
+        LayerRow {
+            depth: DepthCode::D1,
+            ..WIDE
+        },
+    ],
+    ..SINGLE
+};
+
+/// The same three layers without time interleaving, with delays of 2 frames.
+pub const THREE_SHALLOW: PlanRow = PlanRow {
+    layers: &[NARROW, MIDDLE, WIDE],
+    ..SINGLE
+};
+
 /// The layer of a row.
 fn layer_of(row: &LayerRow) -> Result<LayerSetting, Fail> {
     match LayerSetting::new(row.segments, row.modulation, row.rate, row.depth) {

@@ -13,6 +13,12 @@ pub const CELLS: usize = 509_388;
 /// Bytes of its symbol: one, and 1248 cells of two.
 pub const SYMBOL: usize = 2497;
 
+/// The head that a frame of cells has before its symbols in version 2, for that mode and guard interval.
+pub const HEAD: [u8; 8] = [0x49, 0x53, 0x43, 0x32, 0x01, 0x04, 0, 0];
+
+/// Bytes of its frame of cells with the head.
+pub const HEADED: usize = 509_396;
+
 /// Bytes of a frame of broadcast packets of mode 3 with guard interval 1/8: 4608 of 204.
 pub const WIDE_FRAME: usize = 940_032;
 
@@ -39,6 +45,24 @@ pub fn marked_packets(alloc: Global, count: usize, mark: u8) -> Result<Vec<u8>, 
         let number = [0x47, (packet / 256 % 256) as u8, (packet % 256) as u8];
         bytes.extend_from_slice(&number)?;
         bytes.extend_from_slice(&[mark; 185])?;
+    }
+    Ok(bytes)
+}
+
+/// So many packets of each of layers A, B and C, filled with a mark of their layer.
+pub fn marked_inputs(alloc: Global, packets: [usize; 3]) -> Result<[Vec<u8>; 3], Fail> {
+    let a = marked_packets(alloc, packets[0], 0xAA)?;
+    let b = marked_packets(alloc, packets[1], 0xBB)?;
+    let c = marked_packets(alloc, packets[2], 0xCC)?;
+    Ok([a, b, c])
+}
+
+/// A stream of cells of version 1 in version 2: each frame with its head.
+pub fn with_heads(alloc: Global, cells: &[u8]) -> Result<Vec<u8>, Fail> {
+    let mut bytes = Vec::new(alloc);
+    for frame in cells.chunks(CELLS) {
+        bytes.extend_from_slice(&HEAD)?;
+        bytes.extend_from_slice(frame)?;
     }
     Ok(bytes)
 }
@@ -83,6 +107,16 @@ pub fn check_null_packets(rt: &impl Abort, frames: &[u8]) {
 pub fn frame_at(stream: &[u8], size: usize, number: usize) -> &[u8] {
     let from = size.wrapping_mul(number);
     stream.get(from..from.wrapping_add(size)).unwrap_or(&[])
+}
+
+/// The first frames of a stream, of frames of so many bytes, as far as they are there.
+pub fn first_frames(stream: &[u8], size: usize, count: usize) -> &[u8] {
+    stream.get(..size.wrapping_mul(count)).unwrap_or(stream)
+}
+
+/// What follows so many frames of a stream, of frames of so many bytes.
+pub fn frames_behind(stream: &[u8], size: usize, count: usize) -> &[u8] {
+    stream.get(size.wrapping_mul(count)..).unwrap_or(&[])
 }
 
 /// The slot with a number among the slots of all frames, or nothing where it isn't there.

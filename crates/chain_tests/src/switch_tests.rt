@@ -201,13 +201,9 @@ fn countdown_ends_with_the_same_setting(rt: HostRuntime) -> Result<(), Fail> {
         &rt,
         layer_packets(alloc, last, 1)? == marked_packets(alloc, 156, 0x55)?,
     );
-    let (frames, out) = received(
-        alloc,
-        &SINGLE,
-        &changed_cells(alloc, &cells, &SAME_SETTING)?,
-    )?;
-    check_count(&rt, frames as usize, 3);
-    let written = out.bytes();
+    let ended = receive_single(alloc, &changed_cells(alloc, &cells, &SAME_SETTING)?)?;
+    check(&rt, ended.answer == Ok(3));
+    let written = ended.out.bytes();
     check_count(&rt, written.len(), 783_360);
     check_null_packets(&rt, written);
     for (slot, wanted) in [

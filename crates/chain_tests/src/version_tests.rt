@@ -1,24 +1,19 @@
 //! Streams of cells of version 2, and codings whose reads or writes fail.
 
-use crate::commands::{
-    CodeEnd, LayerInputs, LoneInput, ROOM, code_plan, remux_plan, remuxed, whole,
-};
-use crate::epoch_rows::EPOCHS;
+use crate::commands::{LoneInput, ROOM, code_plan, receive_headed, remuxed, send, whole};
+use crate::epoch_rows::{EPOCHS, RECEIVED_MODES};
+use crate::placed::check_frames;
 use crate::plans::{SINGLE, plan_of, plan_with};
-use crate::streams::{CELLS, FRAME, check, check_count, frame_at, marked_packets};
+use crate::streams::{
+    CELLS, FRAME, HEAD, HEADED, check, check_count, first_frames, frames_behind, marked_packets,
+    with_heads,
+};
+use crate::words::receive_single;
 use coder_core::CodeFault;
 use edge_io::{MemorySink, Seat};
-use isdbt_base::{Plan, Writing};
-use std::alloc::Global;
+use isdbt_base::Writing;
 use std::process::Abort;
 use std::test::Fail;
-
-/// The cells of broadcast packets by a plan, in version 2.
-fn headed(alloc: Global, plan: &Plan, stream: &[u8]) -> Result<CodeEnd, Fail> {
-    let how = Writing { v2: true };
-    let out = MemorySink::new(alloc, ROOM)?;
-    code_plan(alloc, plan, how, &whole(stream), out)
-}
 
 /// Checks that frames of this many bytes have this head, and answers how many there are.
 fn check_heads(rt: &impl Abort, frames: &[u8], size: usize, head: [u8; 8]) -> usize {
@@ -31,55 +26,47 @@ fn check_heads(rt: &impl Abort, frames: &[u8], size: usize, head: [u8; 8]) -> us
     count
 }
 
-/// In version 2 each frame of the first cells has the head of mode 1 and guard interval 1/4, and is else that of version 1.
+/// In version 2 each frame of the first cells has the head of mode 1 and guard interval 1/4, and is else that of version 1; what
+/// is received is the same.
 #[test]
 fn first_cells_with_heads(rt: HostRuntime) -> Result<(), Fail> {
     let alloc = rt.alloc();
     let packet = marked_packets(alloc, 1, 0x55)?;
-    let (_, stream) = remuxed(alloc, &SINGLE, [&packet, &[], &[]])?;
+    let layers = [packet.as_slice(), &[], &[]];
     let plan = plan_of(&SINGLE)?;
-    let plain = code_plan(
-        alloc,
-        &plan,
-        Writing { v2: false },
-        &whole(stream.bytes()),
-        MemorySink::new(alloc, ROOM)?,
-    )?;
-    let second = headed(alloc, &plan, stream.bytes())?;
-    check(&rt, second.answer == Ok(3));
-    let head = [0x49, 0x53, 0x43, 0x32, 0x01, 0x04, 0, 0];
-    check_count(&rt, check_heads(&rt, second.out.bytes(), 509_396, head), 3);
-    for frame in 0..3 {
-        let bytes = frame_at(second.out.bytes(), 509_396, frame);
-        let symbols = frame_at(plain.out.bytes(), CELLS, frame);
-        check(&rt, bytes.get(8..) == Some(symbols));
-    }
+    let plain = send(alloc, &plan, Writing { v2: false }, layers)?;
+    let second = send(alloc, &plan, Writing { v2: true }, layers)?;
+    let cells = second.cells.bytes();
+    check_count(&rt, cells.len(), 1_528_188);
+    check_count(&rt, check_heads(&rt, cells, HEADED, HEAD), 3);
+    let headed = with_heads(alloc, plain.cells.bytes())?;
+    check(&rt, headed.as_slice() == cells);
+    let ended = receive_single(alloc, plain.cells.bytes())?;
+    check(&rt, ended.answer == Ok(3));
     Ok(())
 }
 
-/// Four frames of mode 1 with guard interval 1/4, and three of mode 2 with 1/8.
+/// Four frames of mode 1 with guard interval 1/4, and three of mode 2 with 1/8: the packets are received in frames 2, 3 and 6.
 #[test]
 fn mode_changes_at_a_switch(rt: HostRuntime) -> Result<(), Fail> {
     let alloc = rt.alloc();
     let row = &EPOCHS[1];
     let plan = plan_with(&row.first, row.switches)?;
     let packets = marked_packets(alloc, row.packets[0], 0xAA)?;
-    let inputs = LayerInputs {
-        layers: [&packets, &[], &[]],
-        fails_from: u64::MAX,
-    };
-    let sent = remux_plan(alloc, &plan, &inputs, 1000, MemorySink::new(alloc, ROOM)?)?;
-    let ended = headed(alloc, &plan, sent.out.bytes())?;
-    check(&rt, ended.answer == Ok(7));
-    let cells = ended.out.bytes();
+    let layers = [packets.as_slice(), &[], &[]];
+    let sent = send(alloc, &plan, Writing { v2: true }, layers)?;
+    let cells = sent.cells.bytes();
     check_count(&rt, cells.len(), 5_093_324);
-    let Some((before, behind)) = cells.split_at_checked(4 * 509_396) else {
-        return Err(Fail::from("too few cells"));
-    };
-    let first = [0x49, 0x53, 0x43, 0x32, 0x01, 0x04, 0, 0];
-    check_count(&rt, check_heads(&rt, before, 509_396, first), 4);
+    let before = first_frames(cells, HEADED, 4);
+    check_count(&rt, check_heads(&rt, before, HEADED, HEAD), 4);
+    let behind = frames_behind(cells, HEADED, 4);
     let second = [0x49, 0x53, 0x43, 0x32, 0x02, 0x08, 0, 0];
     check_count(&rt, check_heads(&rt, behind, 1_018_580, second), 3);
+    let ended = receive_headed(alloc, cells)?;
+    check(&rt, ended.answer == Ok(7));
+    check_count(&rt, ended.out.bytes().len(), 2_454_528);
+    let frames = check_frames(&rt, alloc, ended.out.bytes(), &RECEIVED_MODES, layers)?;
+    check_count(&rt, frames, 7);
     Ok(())
 }
 

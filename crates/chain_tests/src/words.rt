@@ -1,8 +1,8 @@
 //! Changed TMCC words in streams of cells. Bits of a word are named by their numbers, B0 to B203.
 
-use crate::commands::{ROOM, ReceiveEnd, receive_into};
+use crate::commands::{ROOM, ReceiveEnd, receive_headed, receive_into};
 use crate::plans::SINGLE;
-use crate::streams::{CELLS, SYMBOL, frame_at, slot_at};
+use crate::streams::{CELLS, SYMBOL, frame_at, slot_at, with_heads};
 use edge_io::MemorySink;
 use std::alloc::Global;
 use std::test::Fail;
@@ -85,10 +85,15 @@ pub fn changed_cells(alloc: Global, cells: &[u8], change: &Change) -> Result<Vec
     Ok(changed)
 }
 
-/// Receives cells of a single layer.
+/// Receives cells of mode 1 with guard interval 1/4 in version 1. Fails if they are received otherwise in version 2.
 pub fn receive_single(alloc: Global, cells: &[u8]) -> Result<ReceiveEnd, Fail> {
     let out = MemorySink::new(alloc, ROOM)?;
-    receive_into(alloc, SINGLE.mode, SINGLE.guard, cells, out)
+    let ended = receive_into(alloc, SINGLE.mode, SINGLE.guard, cells, out)?;
+    let headed = receive_headed(alloc, &with_heads(alloc, cells)?)?;
+    if headed.answer != ended.answer || headed.out.bytes() != ended.out.bytes() {
+        return Err(Fail::from("the versions are received otherwise"));
+    }
+    Ok(ended)
 }
 
 /// The first two bytes of the information of a slot.

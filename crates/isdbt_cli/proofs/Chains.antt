@@ -18,7 +18,7 @@ use Rattle.coder_core.specs.CodeRefusals.{code_refusal, is_there, frames_from, c
 use Rattle.coder_core.specs.SentCells.{sent_frame}
 use Rattle.coder_core.specs.Answers.{code_command}
 use Rattle.coder_core.proofs.BehindEnd.{free}
-use Rattle.seg_receiver.specs.CellStream.{View, view_of, writing_of, AreInRow}
+use Rattle.seg_receiver.specs.CellStream.{View, view_of, writing_of, AreInRow, NoBadHead}
 use Rattle.seg_receiver.specs.Received.{received_frame}
 use Rattle.seg_receiver.specs.Delivered.{SendsIn, CanCarry, ArePackets, IsNear, delivered_packets}
 use Rattle.seg_receiver.proofs.AcceptedStream.{accepted-written}
@@ -28,16 +28,25 @@ use Rattle.seg_receiver.proofs.FoundFrames.{product-same, coded-broadcast, sizes
 use Rattle.seg_receiver.proofs.InputDelivered.{input_delivered}
 use Rattle.seg_receiver.proofs.MultiplexedBytes.{multiplexed-packets}
 use Rattle.seg_receiver.proofs.NearDelivered.{received_frame-near}
+use Rattle.seg_receiver.proofs.NearHeads.{near-heads}
 use Rattle.seg_receiver.proofs.NearOutcome.{near_outcome}
+use Rattle.seg_receiver.proofs.PlanViews.{in_row}
+use Rattle.seg_receiver.proofs.ViewLaws.{laid}
 use Rattle.isdbt_cli.specs.Chain.{written_stream, form_of, IsReceivedAs, WroteNear, IsChain}
 use Rattle.isdbt_cli.specs.FrameLimit.{frame_limit}
 
--- a view that is near a plan is received as what is delivered of it, and so is each front part of it
-pub near_received : (v : View) (p : Schedule) (frames : FramePackets) (count : ℕ) → IsPlan p → AreInRow v count → ArePackets p frames count → IsNear v p frames count → count ≤ frame_limit → IsReceivedAs v p frames count
-near_received v p frames count plan row packets near few = record {
-  outcome = near_outcome v p false count frame_limit plan row near.whole near.words (λ f h e. absurd (cc)) few;
+-- a view that is near a plan, and of which no head is refused, is received as what is delivered of it, and so is each front part of it
+pub near_received : (v : View) (p : Schedule) (frames : FramePackets) (count : ℕ) → IsPlan p → AreInRow v count → NoBadHead v count → ArePackets p frames count → IsNear v p frames count → count ≤ frame_limit → IsReceivedAs v p frames count
+near_received v p frames count plan row fine packets near few = record {
+  outcome = near_outcome v p false count frame_limit plan row fine near.whole near.words (λ f h e. absurd (cc)) few;
   product = λ m le. product-same (received_frame v) (broadcast p (delivered_packets p frames)) m (λ f less. received_frame-near v p frames count plan packets near f (omega (arith, le, less)));
 }
+
+-- and so is a stream of a version that is near it
+pub near_stream : (form : Form) (stream : List ℕ) (p : Schedule) (frames : FramePackets) (count : ℕ) → IsPlan p → ArePackets p frames count → IsNear (view_of form stream) p frames count
+    → count ≤ frame_limit → IsReceivedAs (view_of form stream) p frames count
+near_stream form stream p frames count plan packets near few =
+    near_received (view_of form stream) p frames count plan (in_row form stream count (sym (laid form stream).size ∙ near.whole)) (near-heads form stream p frames count plan near) packets near few
 
 -- the cells of a plan are near it in each version of the stream that can carry it
 pub near_cells : (p : Schedule) (frames : FramePackets) (count : ℕ) (form : Form) → IsPlan p → CanCarry form p count → ArePackets p frames count

@@ -5,9 +5,10 @@ use Rattle.std.proofs.lemmas.List.{take-take, take_all, append-nil, append_cance
 use Rattle.std.proofs.lemmas.Bool.{cases_lt}
 use Rattle.isdbt_base.specs.Plans.{Schedule}
 use Rattle.isdbt_cli.specs.CommandLines.{Word, Command, remux, code, receive, Spells, CanGoOn, IsFaultAt}
-use Rattle.isdbt_cli.proofs.Transmissions.{mode_word-injective, guard_word-injective, same_head, same_tail}
+use Rattle.isdbt_cli.proofs.Transmissions.{same_head, same_tail}
 use Rattle.isdbt_cli.proofs.PlanLines.{names_words, code_words, remux_spelled, code_spelled, receive_spelled, remux_or_code, remux_or_receive, code_or_receive, remux_line, code_line, same_line}
 use Rattle.isdbt_cli.proofs.CodeSpelling.{version_words-injective}
+use Rattle.isdbt_cli.proofs.ReceiveSpelling.{same_form}
 use Rattle.isdbt_cli.proofs.Spelling.{same_names, name_of, first_word}
 
 -- ---- the place is one
@@ -61,17 +62,14 @@ one_command words (remux p a b c) (remux q a' b' c') s t =
     let names = same_names a a' b b' c c' used_b used_c same.1 in
     ap (λ x. remux x a b c) same.0 ∙ ap (λ x. remux q x b c) names.0 ∙ ap (λ x. remux q a' x c) names.1 ∙ ap (λ x. remux q a' b' x) names.2
 one_command words (remux p a b c) (code q how name) s t = absurd (remux_or_code (same_first words (remux p a b c) (code q how name) s t))
-one_command words (remux p a b c) (receive m g name) s t = absurd (remux_or_receive (same_first words (remux p a b c) (receive m g name) s t))
+one_command words (remux p a b c) (receive form name) s t = absurd (remux_or_receive (same_first words (remux p a b c) (receive form name) s t))
 one_command words (code p how name) (remux q a b c) s t = absurd (remux_or_code (same_first words (remux q a b c) (code p how name) t s))
-one_command words (code p how name) (receive m g name') s t = absurd (code_or_receive (same_first words (code p how name) (receive m g name') s t))
-one_command words (receive m g name) (remux q a b c) s t = absurd (remux_or_receive (same_first words (remux q a b c) (receive m g name) t s))
-one_command words (receive m g name) (code q how name') s t = absurd (code_or_receive (same_first words (code q how name') (receive m g name) t s))
-one_command words (receive m g name) (receive m' g' name') s t =
-    let lines = sym (receive_spelled m g name words s.spelled) ∙ receive_spelled m' g' name' words t.spelled in
-    let modes = mode_word-injective m m' (same_head (same_tail lines)) in
-    let guards = guard_word-injective g g' (same_head (same_tail (same_tail lines))) in
-    let names : name ≡ name' = append_cancel_left (codes "IN=") name name' (same_head (same_tail (same_tail (same_tail lines)))) in
-    ap (λ x. receive x g name) modes ∙ ap (λ x. receive m' x name) guards ∙ ap (λ x. receive m' g' x) names
+one_command words (code p how name) (receive form name') s t = absurd (code_or_receive (same_first words (code p how name) (receive form name') s t))
+one_command words (receive form name) (remux q a b c) s t = absurd (remux_or_receive (same_first words (remux q a b c) (receive form name) t s))
+one_command words (receive form name) (code q how name') s t = absurd (code_or_receive (same_first words (code q how name') (receive form name) t s))
+one_command words (receive form name) (receive form' name') s t =
+    let same = same_form form form' name name' [] [] (same_tail (sym (receive_spelled form name words s.spelled) ∙ receive_spelled form' name' words t.spelled)) in
+    ap (λ x. receive x name) same.0 ∙ ap (λ x. receive form' x) same.1
 one_command words (code p how name) (code q how' name') s t =
     let k = code_spelled p how name words s.spelled in
     let l = code_spelled q how' name' words t.spelled in

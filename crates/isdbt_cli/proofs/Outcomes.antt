@@ -14,7 +14,7 @@ use Rattle.coder_core.specs.Answers.{code_kind}
 use Rattle.seg_receiver.specs.declared.fault.ReceiveFault.TheVariants as receive_faults
 use Rattle.seg_receiver.specs.ReceiveAnswers.{receive_kind}
 use Rattle.isdbt_cli.specs.declared.fault.RunFault.{RunFault}
-use Rattle.isdbt_cli.specs.declared.fault.RunFault.TheVariants.{Usage, BadSync, Truncated, HeadMisplaced, NoHead, WrongCount, BadTmcc, Unannounced, NotPartial, OpenFault, ReadFault, WriteFault, TooLong, NoMemory}
+use Rattle.isdbt_cli.specs.declared.fault.RunFault.TheVariants.{Usage, BadSync, Truncated, HeadMisplaced, NoHead, WrongCount, BadTmcc, Unannounced, NotPartial, OpenFault, ReadFault, WriteFault, TooLong, NoMemory, BadHead}
 use Rattle.isdbt_cli.specs.declared.fault.Outcome.{Outcome}
 use Rattle.isdbt_cli.specs.declared.fault.Outcome.TheVariants.{Done, Fault}
 use Rattle.isdbt_cli.specs.CommandLines.{Word}
@@ -57,6 +57,7 @@ code_keeps code_faults.NoMemory = refl
 
 pub receive_keeps : KeepsKind run_fault_of_receive receive_kind
 receive_keeps (receive_faults.Truncated seat over) = refl
+receive_keeps (receive_faults.BadHead frame byte) = refl
 receive_keeps (receive_faults.BadTmcc frame reason) = refl
 receive_keeps (receive_faults.Unannounced frame) = refl
 receive_keeps (receive_faults.NotPartial frame) = refl
@@ -81,6 +82,7 @@ memory_fault (ReadFault seat) e = absurd (cc)
 memory_fault WriteFault e = absurd (cc)
 memory_fault TooLong e = absurd (cc)
 memory_fault NoMemory e = refl
+memory_fault (BadHead frame byte) e = absurd (cc)
 
 -- a fault that is none of an engine is no answer of one
 no_engine : {F : Type 0} (fault_of : F → RunFault) (kind : F → FaultKind) (fault : RunFault) (r : Result ℕ F) → KeepsKind fault_of kind → engine_kind fault ≡ None → Fault fault ≡ outcome_of fault_of r → ⊥
@@ -111,6 +113,7 @@ seated_fault name is_open (ReadFault seat) kind e seats = seats
 seated_fault name is_open WriteFault kind e seats = seats
 seated_fault name is_open TooLong kind e seats = seats
 seated_fault name is_open NoMemory kind e seats = seats
+seated_fault name is_open (BadHead frame byte) kind e seats = seats
 
 pub seated : {F : Type 0} (fault_of : F → RunFault) (kind : F → FaultKind) (name : Names) (is_open : Seat → Bool) (fault : F) (given : RunFault) → KeepsKind fault_of kind → given ≡ fault_of fault → AreSeated name is_open → SeatsAfter name is_open (Fault given)
 seated fault_of kind name is_open fault given keeps is seats = seated_fault name is_open given (kind fault) (ap engine_kind is ∙ keeps fault) seats

@@ -4,6 +4,7 @@ use Rattle.std.specs.Prelude.{codes}
 use Rattle.std.specs.Fmt.{digits}
 use Rattle.isdbt_base.specs.declared.kinds.Mode.TheVariants.{M1, M2, M3}
 use Rattle.isdbt_base.specs.declared.kinds.Guard.TheVariants.{G4, G8, G16, G32}
+use Rattle.isdbt_base.specs.declared.stream.Form.TheVariants.{V1, V2}
 use Rattle.isdbt_base.specs.declared.kinds.Modulation.TheVariants.{Qpsk, Qam16, Qam64}
 use Rattle.isdbt_base.specs.declared.kinds.Rate.TheVariants.{R12, R23, R34, R56, R78}
 use Rattle.isdbt_base.specs.declared.kinds.DepthCode.TheVariants.{D0, D1, D2, D3}
@@ -67,10 +68,14 @@ changing = (
   refl,
 )
 
--- a receiving
-receiving : SpellCommand (receive M2 G16 (codes "x.cells")) (codes "receive" ∷ codes "2" ∷ codes "1/16" ∷ codes "IN=x.cells" ∷ [])
+-- a receiving, of a stream of each version
+receiving : SpellCommand (receive (V1 M2 G16) (codes "x.cells")) (codes "receive" ∷ codes "2" ∷ codes "1/16" ∷ codes "IN=x.cells" ∷ [])
 unfolding SpellCommand
 receiving = refl
+
+receiving_heads : SpellCommand (receive V2 (codes "x.cells")) (codes "receive" ∷ codes "IN=x.cells" ∷ [])
+unfolding SpellCommand
+receiving_heads = refl
 
 -- the same lengths of time interleaving in mode 2
 mode_2 : setting_word M2 (record { partial = false; a = record { segments = 6; modulation = Qam64; rate = R56; depth = D3 }; b = Some (record { segments = 7; modulation = Qpsk; rate = R12; depth = D1 }); c = None })

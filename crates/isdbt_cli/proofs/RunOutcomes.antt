@@ -3,12 +3,11 @@ use Rattle.std.proofs.Common.{◌≡◌, ℕ, List, Bool, false, None, Some, Ok,
 use Rattle.std.specs.Prelude.{◌↔◌}
 use Rattle.std.specs.declared.option.Option.{Option}
 use Rattle.std.specs.declared.result.Result.{Result}
-use Rattle.isdbt_base.specs.declared.kinds.Mode.{Mode}
-use Rattle.isdbt_base.specs.declared.kinds.Guard.{Guard}
 use Rattle.isdbt_base.specs.declared.kinds.Layer.{Layer}
 use Rattle.isdbt_base.specs.Outcome.{product, IsOutcome}
 use Rattle.isdbt_base.specs.Plans.{Schedule}
 use Rattle.isdbt_base.specs.declared.stream.Writing.{Writing}
+use Rattle.isdbt_base.specs.declared.stream.Form.{Form}
 use Rattle.edge_io.specs.declared.shelf.Seat.{Seat}
 use Rattle.edge_io.specs.declared.shelf.Seat.TheVariants as seats
 use Rattle.edge_io.specs.Known.{append_known}
@@ -22,7 +21,7 @@ use Rattle.remux_core.proofs.Refusing.{refusal-good}
 use Rattle.coder_core.specs.declared.fault.CodeFault.{CodeFault}
 use Rattle.coder_core.specs.CodeRefusals.{code_refusal, is_there, coded_frame}
 use Rattle.coder_core.specs.Answers.{code_kind, code_command}
-use Rattle.seg_receiver.specs.CellStream.{first_version}
+use Rattle.seg_receiver.specs.CellStream.{view_of}
 use Rattle.seg_receiver.specs.Received.{received}
 use Rattle.seg_receiver.specs.ReceiveRefusals.{receive_is_there, receive_refusal}
 use Rattle.seg_receiver.specs.ReceiveAnswers.{receive_kind, receive_command}
@@ -44,7 +43,7 @@ use Rattle.isdbt_cli.proofs.Outcomes.{remux_keeps, code_keeps, receive_keeps, no
 not_usage : (c : Command) (shelf shelf' : Cause → ℕ) (sink sink' : ℕ) (outcome : Outcome) (word : ℕ) → CauseOf c shelf shelf' sink sink' outcome → outcome ≡ Fault (Usage word) → ⊥
 not_usage (remux p a b c) shelf shelf' sink sink' outcome word cause e = no_usage run_fault_of remux_kind _ _ outcome word remux_keeps cause e
 not_usage (code p how name) shelf shelf' sink sink' outcome word cause e = no_usage run_fault_of_code code_kind _ _ outcome word code_keeps cause e
-not_usage (receive mode guard name) shelf shelf' sink sink' outcome word cause e = no_usage run_fault_of_receive receive_kind _ _ outcome word receive_keeps cause e
+not_usage (receive form name) shelf shelf' sink sink' outcome word cause e = no_usage run_fault_of_receive receive_kind _ _ outcome word receive_keeps cause e
 
 pub ok_usage : (words : List Word) (c : Command) (shelf shelf' : Cause → ℕ) (sink sink' : ℕ) (outcome : Outcome) (word : ℕ) → Spells words c → CauseOf c shelf shelf' sink sink' outcome → (outcome ≡ Fault (Usage word)) ↔ IsFaultAt words word
 ok_usage words c shelf shelf' sink sink' outcome word s cause = (λ e. absurd (not_usage c shelf shelf' sink sink' outcome word cause e), λ f. absurd (no_place words c word s f))
@@ -81,10 +80,10 @@ module _ (holds : Word → Option (List ℕ)) (before after : Option (List ℕ))
       quiet run_fault_of_code code_kind code_keeps (code_command how p free.0 frame_limit).frames (lone_account (code_command how p free.0 frame_limit) (left seats.In)) (λ seat. seat ≡ seats.In) (lone_name name) before after shelf shelf' sink sink'
       (lone_named name) none IsDoneOrNoMemory tt (λ f r. absurd (let at = r.ended.outcome.at in let fine = free.2 r.frame in cc))
       (LoneAnswer code_kind (code_command how p free.0 frame_limit) before after (left seats.In)) outcome (λ m done. tt) (λ f fault. fault) (says free.0 free.1) cause
-  complete (receive mode guard name) is says cause none free =
-      quiet run_fault_of_receive receive_kind receive_keeps (receive_command (first_version mode guard free.0) false free.0 frame_limit).frames (lone_account (receive_command (first_version mode guard free.0) false free.0 frame_limit) (left seats.In)) (λ seat. seat ≡ seats.In) (lone_name name) before after shelf shelf' sink sink'
+  complete (receive form name) is says cause none free =
+      quiet run_fault_of_receive receive_kind receive_keeps (receive_command (view_of form free.0) false free.0 frame_limit).frames (lone_account (receive_command (view_of form free.0) false free.0 frame_limit) (left seats.In)) (λ seat. seat ≡ seats.In) (lone_name name) before after shelf shelf' sink sink'
       (lone_named name) none IsDoneOrNoMemory tt (λ f r. absurd (let at = r.ended.outcome.at in let fine = free.2 r.frame in cc))
-      (LoneAnswer receive_kind (receive_command (first_version mode guard free.0) false free.0 frame_limit) before after (left seats.In)) outcome (λ m done. tt) (λ f fault. fault) (says free.0 free.1) cause
+      (LoneAnswer receive_kind (receive_command (view_of form free.0) false free.0 frame_limit) before after (left seats.In)) outcome (λ m done. tt) (λ f fault. fault) (says free.0 free.1) cause
 
   -- good packets leave too many frames too
   too_long_alone : (fault : RemuxFault) → fault ≡ remux_faults.TooLong → IsFree (Fault (run_fault_of fault))
@@ -109,10 +108,10 @@ module _ (holds : Word → Option (List ℕ)) (before after : Option (List ℕ))
       (λ m done. (let e = same_count (code_refusal p input frame_limit) (is_there p input) m count None None done.ended.outcome all in (e, done.ended.written ∙ ap (λ k. append_known before (product (coded_frame how p input) k)) e ∙ ap (append_known before) same)))
       (λ f fault. fault) says cause
 
-  pub given : (mode : Mode) (guard : Guard) (name : Word) (stream : List ℕ) (count : ℕ) (packets : List ℕ) → EndsSo run_fault_of_receive (λ seat. after ≡ before) (LoneAnswer receive_kind (receive_command (first_version mode guard stream) false stream frame_limit) before after (left seats.In)) outcome → CauseOf (receive mode guard name) shelf shelf' sink sink' outcome
-      → NothingRose (lone_name name) shelf shelf' sink sink' → IsOutcome (receive_refusal (first_version mode guard stream) false frame_limit) (receive_is_there (first_version mode guard stream)) count None → received (first_version mode guard stream) count ≡ packets → IsDoneWith count packets before after outcome
-  given mode guard name stream count packets says cause none all same =
-      let v = first_version mode guard stream in
+  pub given : (form : Form) (name : Word) (stream : List ℕ) (count : ℕ) (packets : List ℕ) → EndsSo run_fault_of_receive (λ seat. after ≡ before) (LoneAnswer receive_kind (receive_command (view_of form stream) false stream frame_limit) before after (left seats.In)) outcome → CauseOf (receive form name) shelf shelf' sink sink' outcome
+      → NothingRose (lone_name name) shelf shelf' sink sink' → IsOutcome (receive_refusal (view_of form stream) false frame_limit) (receive_is_there (view_of form stream)) count None → received (view_of form stream) count ≡ packets → IsDoneWith count packets before after outcome
+  given form name stream count packets says cause none all same =
+      let v = view_of form stream in
       quiet run_fault_of_receive receive_kind receive_keeps (receive_command v false stream frame_limit).frames (lone_account (receive_command v false stream frame_limit) (left seats.In)) (λ seat. seat ≡ seats.In) (lone_name name) before after shelf shelf' sink sink'
       (lone_named name) none (IsDoneWith count packets before after) tt (λ f r. absurd (no_refusal (receive_refusal v false frame_limit) (receive_is_there v) count r.frame f all r.ended.outcome))
       (LoneAnswer receive_kind (receive_command v false stream frame_limit) before after (left seats.In)) outcome

@@ -15,7 +15,7 @@ use Rattle.isdbt_base.specs.Switching.{alike, other_layer, layers_fault, switch_
 use Rattle.isdbt_base.proofs.PlanEpochs.{same_layers}
 use Rattle.isdbt_base.proofs.EpochLaws.{last_epoch}
 use Rattle.isdbt_cli.specs.CommandLines.{Word, mode_word, guard_word, setting_word, frame_word, told_words, IsIn}
-use Rattle.isdbt_cli.specs.Parsing.{Unread, Reads, BeginsWith, IsStuck, StartsWith, ReadsMode, Change, change_words, IsChange, IsLater, AddsSwitch, IsStuckInSwitch}
+use Rattle.isdbt_cli.specs.Parsing.{Unread, Reads, BeginsWith, IsStuck, StartsWith, IsStuckAtGuard, ReadsMode, Change, change_words, IsChange, IsLater, AddsSwitch, IsStuckInSwitch}
 use Rattle.isdbt_cli.proofs.SettingWords.{setting_word-injective}
 use Rattle.isdbt_cli.proofs.Stuck.{stuck_here, reads_both}
 use Rattle.isdbt_cli.proofs.Transmissions.{same_head, same_tail, mode_word-injective}
@@ -42,12 +42,11 @@ module _ (first : Parameters) (mode : Mode) (guard : Guard) (ok : IsAccepted fir
   is_change told m g kept = record { accepted = ok; layers = (refl, refl); kept = kept }
 
   -- the guard interval behind a mode is none
-  pub stuck_at_guard : (m : Mode) (u v : Unread) (p : ℕ) → Reads (mode_word m ∷ []) u v → p ≡ v.place → ((g : Guard) → StartsWith (guard_word g) v.words → ⊥)
-      → IsStuck (Changes first mode guard) u p
-  stuck_at_guard m u v p reads at never =
-      stuck_here (Changes first mode guard) (mode_word m ∷ []) u v p reads at
-      (guard_word guard ∷ setting_word m first ∷ [], (same_change true m guard first, is_change true m guard (λ e. absurd (cc)), [], refl))
-      (λ ws c heads. (let b = behind_mode m c.0.told c.0.after ws c.2 c.3 in never c.0.after.guard (sym heads ∙ ap (take 1) b.1)))
+  pub stuck_at_guard : (u : Unread) (p : ℕ) → IsStuckAtGuard u p → IsStuck (Changes first mode guard) u p
+  stuck_at_guard u p s =
+      stuck_here (Changes first mode guard) (mode_word s.mode ∷ []) u s.behind p s.reads s.place_is
+      (guard_word guard ∷ setting_word s.mode first ∷ [], (same_change true s.mode guard first, is_change true s.mode guard (λ e. absurd (cc)), [], refl))
+      (λ ws c heads. (let b = behind_mode s.mode c.0.told c.0.after ws c.2 c.3 in s.never c.0.after.guard (sym heads ∙ ap (take 1) b.1)))
 
   -- the setting is none that may stand there
   pub stuck_at_setting : (m : Mode) (g : Guard) (u v : Unread) (p : ℕ) → ReadsMode mode guard m g u v → p ≡ v.place

@@ -26,6 +26,7 @@ number_of (run.ReadFault seat) = 11
 number_of run.WriteFault = 12
 number_of run.TooLong = 13
 number_of run.NoMemory = 14
+number_of (run.BadHead frame byte) = 15
 
 abbrev pub status_of : Outcome → ℕ
 status_of (Done frames) = 0
@@ -52,6 +53,7 @@ run_fault_of_code code.NoMemory = run.NoMemory
 
 abbrev pub run_fault_of_receive : ReceiveFault → RunFault
 run_fault_of_receive (receive.Truncated seat over) = run.Truncated seat over
+run_fault_of_receive (receive.BadHead frame byte) = run.BadHead frame byte
 run_fault_of_receive (receive.BadTmcc frame reason) = run.BadTmcc frame reason
 run_fault_of_receive (receive.Unannounced frame) = run.Unannounced frame
 run_fault_of_receive (receive.NotPartial frame) = run.NotPartial frame

@@ -11,7 +11,7 @@ use Rattle.tmcc_word.specs.declared.fault.TmccFault.{TmccFault}
 use Rattle.tmcc_word.specs.declared.fault.TmccFault.TheVariants.{Sync, SegmentType, Parity, System, LayerField, Segments}
 use Rattle.isdbt_cli.specs.declared.fault.Outcome.{Outcome}
 use Rattle.isdbt_cli.specs.declared.fault.Outcome.TheVariants.{Done, Fault}
-use Rattle.isdbt_cli.specs.declared.fault.RunFault.TheVariants.{Usage, BadSync, Truncated, HeadMisplaced, NoHead, WrongCount, BadTmcc, Unannounced, NotPartial, OpenFault, ReadFault, WriteFault, TooLong, NoMemory}
+use Rattle.isdbt_cli.specs.declared.fault.RunFault.TheVariants.{Usage, BadSync, Truncated, HeadMisplaced, NoHead, WrongCount, BadTmcc, Unannounced, NotPartial, OpenFault, ReadFault, WriteFault, TooLong, NoMemory, BadHead}
 use Rattle.isdbt_cli.specs.CommandLines.{Word}
 
 abbrev pub seat_text : Seat → Word
@@ -51,6 +51,7 @@ line_of (Fault (ReadFault seat)) = codes "isdbt: 11 read fault: " ++ seat_text s
 line_of (Fault WriteFault) = codes "isdbt: 12 write fault" ++ 10 ∷ []
 line_of (Fault TooLong) = codes "isdbt: 13 too long" ++ 10 ∷ []
 line_of (Fault NoMemory) = codes "isdbt: 14 no memory" ++ 10 ∷ []
+line_of (Fault (BadHead frame byte)) = codes "isdbt: 15 bad frame head: frame " ++ decimal frame ++ codes " byte " ++ decimal byte ++ 10 ∷ []
 
 -- the line was written, or a front part of it where a write failed
 pub record IsTold (line : Word) (before after : Option (List ℕ)) (faults faults' : ℕ) : Type 0 where

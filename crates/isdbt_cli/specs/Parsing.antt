@@ -4,13 +4,15 @@ use Rattle.std.specs.Borrow.{Bor}
 use Rattle.isdbt_base.specs.declared.kinds.Mode.{Mode}
 use Rattle.isdbt_base.specs.LayerParameters.{LayerParameters}
 use Rattle.isdbt_base.specs.declared.kinds.Guard.{Guard}
+use Rattle.isdbt_base.specs.declared.stream.Form.{Form}
+use Rattle.isdbt_base.specs.declared.stream.Form.TheVariants.{V1, V2}
 use Rattle.isdbt_base.specs.Parameters.{Parameters, HasSegmentsIfUsed, HasNoGap, IsAccepted}
 use Rattle.isdbt_base.specs.Plans.{Transmission, Switch, Schedule, SameLayers, IsPlan}
 use Rattle.isdbt_base.specs.Epochs.{last_start, last_sent}
 use Rattle.isdbt_base.specs.Switching.{with_switch}
 use Rattle.isdbt_cli.specs.declared.command.Command.{Command as Parsed}
 use Rattle.isdbt_cli.specs.declared.command.Command.TheVariants.{Remux, Code, Receive}
-use Rattle.isdbt_cli.specs.CommandLines.{Word, mode_word, setting_word, frame_word, told_words, IsIn, SpellPlan, other_layer_text, version_words, Command, remux, code, receive, Spells}
+use Rattle.isdbt_cli.specs.CommandLines.{Word, mode_word, guard_word, setting_word, frame_word, told_words, IsIn, SpellPlan, other_layer_text, version_words, Command, remux, code, receive, Spells}
 
 -- ---- the parts of a text
 
@@ -73,18 +75,38 @@ Follows first words = (c : Command) × Spells (first ∷ words) c
 abbrev pub command_of : Parsed → Command
 command_of (Remux plan a b c) = remux plan a.now (option_map (λ x. x.now) b) (option_map (λ x. x.now) c)
 command_of (Code plan how name) = code plan how name.now
-command_of (Receive mode guard name) = receive mode guard name.now
+command_of (Receive form name) = receive form name.now
 
 -- a named input, if it is given: the seat's text and the name
 abbrev pub named : Word → Option Word → List Word
 named seat None = []
 named seat (Some name) = (seat ++ name) ∷ []
 
--- ---- plans
+-- ---- mode and guard interval, where they may be told
 
 -- words begin with this word
 abbrev pub StartsWith : Word → List Word → Type 0
 StartsWith word words = take 1 words ≡ word ∷ []
+
+-- the words of a mode and a guard interval were read; or nothing was read, and no mode is next
+abbrev pub ReadsTold : Option (Mode × Guard) → Unread → Unread → Type 0
+ReadsTold None old new = (new ≡ old) × ((n : Mode) → StartsWith (mode_word n) new.words → ⊥)
+ReadsTold (Some told) old new = Reads (told_words true told.0 told.1) old new
+
+-- a mode was read, and the word behind it, at this place, is no guard interval
+pub record IsStuckAtGuard (unread : Unread) (place : ℕ) : Type 0 where
+  pub mode : Mode
+  pub behind : Unread
+  pub reads : Reads (mode_word mode ∷ []) unread behind
+  pub place_is : place ≡ behind.place
+  pub never : (g : Guard) → StartsWith (guard_word g) behind.words → ⊥
+
+-- the version of a stream that is read, by what is told
+abbrev pub told_by : Form → Option (Mode × Guard)
+told_by (V1 mode guard) = Some (mode, guard)
+told_by V2 = None
+
+-- ---- plans
 
 -- the words of a mode and a guard interval were read, or none: then those before stay, and no mode is next
 pub record ReadsMode (mode : Mode) (guard : Guard) (m : Mode) (g : Guard) (old new : Unread) : Type 0 where

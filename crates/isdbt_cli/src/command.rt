@@ -1,6 +1,6 @@
 //! What a command line asks for.
 
-use isdbt_base::{Guard, Mode, Plan, Writing};
+use isdbt_base::{Form, Plan, Writing};
 
 /// A command, as its words say it.
 #[derive(Debug, Drop)]
@@ -18,10 +18,9 @@ pub enum Command<'a> {
         how: Writing,
         name: &'a str,
     },
-    /// Receives the cells of the input of this name, which are of this mode and guard interval.
+    /// Receives the cells of the input of this name, a stream of this version.
     Receive {
-        mode: Mode,
-        guard: Guard,
+        form: Form,
         name: &'a str,
     },
 }

@@ -79,6 +79,13 @@ pub enum RunFault {
     /// Memory ran out.
     #[error("no memory")]
     NoMemory,
+    /// The head of a frame of cells is refused at this byte, the least such: it is no allowed value, or in a frame that doesn't
+    /// begin an epoch it is another than in the frame before.
+    #[error("bad head of frame {frame}, byte {byte}")]
+    BadHead {
+        frame: u32,
+        byte: u8,
+    },
 }
 
 /// How a command ended: with so many frames written, or with a fault.
@@ -111,6 +118,7 @@ impl Outcome {
             Outcome::Fault(RunFault::WriteFault) => 12,
             Outcome::Fault(RunFault::TooLong) => 13,
             Outcome::Fault(RunFault::NoMemory) => 14,
+            Outcome::Fault(RunFault::BadHead { .. }) => 15,
         }
     }
 }
@@ -171,6 +179,7 @@ impl From<ReceiveFault> for RunFault {
     fn from(fault: ReceiveFault) -> RunFault {
         match fault {
             ReceiveFault::Truncated { seat, over } => RunFault::Truncated { seat, over },
+            ReceiveFault::BadHead { frame, byte } => RunFault::BadHead { frame, byte },
             ReceiveFault::BadTmcc { frame, reason } => RunFault::BadTmcc { frame, reason },
             ReceiveFault::Unannounced { frame } => RunFault::Unannounced { frame },
             ReceiveFault::NotPartial { frame } => RunFault::NotPartial { frame },

@@ -7,13 +7,13 @@ ghost use Rattle.std.specs.Prelude.{◌≡◌, ℕ, ◌<◌, ◌++◌, ◌∷◌
 ghost use Rattle.isdbt_base.specs.Parameters.{Parameters, IsAccepted};
 ghost use Rattle.isdbt_base.specs.declared.kinds.Mode.{Mode as SomeMode};
 ghost use Rattle.isdbt_cli.specs.CommandLines.{mode_word, guard_word, setting_word, frame_word, transmission_words, version_words, IsName, IsNameIfGiven, Spells, IsFaultAt};
-ghost use Rattle.isdbt_cli.specs.Parsing.{Reads, BeginsWith, IsAny, IsStuck, Follows, command_of, named, StartsWith, IsLater, ReadsMode, IsChange, change_words, ReadsSwitch, IsStuckInSwitch, ReadsPlan, HasNoFrame, planned, SpellVersion};
+ghost use Rattle.isdbt_cli.specs.Parsing.{Reads, BeginsWith, IsAny, IsStuck, Follows, command_of, named, StartsWith, ReadsTold, IsStuckAtGuard, told_by, IsLater, ReadsMode, IsChange, change_words, ReadsSwitch, IsStuckInSwitch, ReadsPlan, HasNoFrame, planned, SpellVersion};
 
 use crate::command::Command;
 use crate::cursor::Cursor;
 use crate::fields::{LAST_FRAME, frame_of, guard_of, mode_of};
 use crate::setting_word::setting_of;
-use isdbt_base::{At, Guard, Layer, Mode, Plan, Setting, Writing};
+use isdbt_base::{At, Form, Guard, Layer, Mode, Plan, Setting, Writing};
 
 /// The most switches of a plan.
 const MOST_SWITCHES: u32 = 7;
@@ -81,20 +81,26 @@ fn version(words: &mut Cursor<'_>, wanted: bool) -> Result<Writing, u64>
     }
 }
 
-/// The words behind `receive`: a mode, a guard interval and the name of its input.
+/// The words behind `receive`: the version of the stream and the name of its input.
 fn receive<'a>(words: &mut Cursor<'a>) -> Result<Command<'a>, u64>
     ensures { MatchResult result (λ c. Spells (codes "receive" ∷ words.old.words) (command_of c))
         (λ place. IsStuck (Follows (codes "receive")) words.old place) }
 {
-    let mode = mode(words)?;
-    let guard = guard(words)?;
-    let input = name(words, "IN=")?;
+    let form = form(words)?;
+    let name = name(words, "IN=")?;
     words.end()?;
-    Ok(Command::Receive {
-        mode,
-        guard,
-        name: input,
-    })
+    Ok(Command::Receive { form, name })
+}
+
+/// The version of a stream that is read: version 1 where a mode and a guard interval are told, and else version 2.
+fn form(words: &mut Cursor<'_>) -> Result<Form, u64>
+    ensures ok { IfOk result (λ form. ReadsTold (told_by form) words.old words.new) }
+    ensures err { IfErr result (λ place. IsStuckAtGuard words.old place) }
+{
+    let Some((mode, guard)) = told(words)? else {
+        return Ok(Form::V2);
+    };
+    Ok(Form::V1 { mode, guard })
 }
 
 /// A plan, with switches as long as the next word is a frame at which it takes one; another word ends it. Behind both
@@ -168,11 +174,22 @@ fn mode_and_guard(words: &mut Cursor<'_>, before: At) -> Result<(Mode, Guard), u
     ensures ok { IfOk result (λ x. ReadsMode before.mode before.guard x.0 x.1 words.old words.new) }
     ensures err { (first : Parameters) → IsAccepted first → IfErr result (λ place. IsStuck (BeginsWith (IsChange first before.mode before.guard) change_words) words.old place) }
 {
-    let Some(mode) = next_mode(words) else {
+    let Some((mode, guard)) = told(words)? else {
         return Ok((before.mode, before.guard));
     };
-    let guard = guard(words)?;
     Ok((mode, guard))
+}
+
+/// A mode and a guard interval, if the next word is a mode.
+fn told(words: &mut Cursor<'_>) -> Result<Option<(Mode, Guard)>, u64>
+    ensures ok { IfOk result (λ told. ReadsTold told words.old words.new) }
+    ensures err { IfErr result (λ place. IsStuckAtGuard words.old place) }
+{
+    let Some(mode) = next_mode(words) else {
+        return Ok(None);
+    };
+    let guard = guard(words)?;
+    Ok(Some((mode, guard)))
 }
 
 /// Takes the next word if it is a mode.

@@ -170,7 +170,7 @@ struct ReceiveLine {
     line: &'static str,
 }
 
-const RECEIVE_LINES: [ReceiveLine; 36] = [
+const RECEIVE_LINES: [ReceiveLine; 38] = [
     ReceiveLine {
         fault: ReceiveFault::BadTmcc {
             frame: 16_777_215,
@@ -386,6 +386,19 @@ const RECEIVE_LINES: [ReceiveLine; 36] = [
         },
         status: 7,
         line: "isdbt: 7 tmcc: frame 2 sync\n",
+    },
+    ReceiveLine {
+        fault: ReceiveFault::BadHead {
+            frame: 16_777_215,
+            byte: 255,
+        },
+        status: 15,
+        line: "isdbt: 15 bad frame head: frame 16777215 byte 255\n",
+    },
+    ReceiveLine {
+        fault: ReceiveFault::BadHead { frame: 0, byte: 0 },
+        status: 15,
+        line: "isdbt: 15 bad frame head: frame 0 byte 0\n",
     },
     ReceiveLine {
         fault: ReceiveFault::Unannounced { frame: 0 },

@@ -211,6 +211,12 @@ fn line_of(outcome: &Outcome) -> Line
         RunFault::WriteFault => text_line("isdbt: 12 write fault"),
         RunFault::TooLong => text_line("isdbt: 13 too long"),
         RunFault::NoMemory => text_line("isdbt: 14 no memory"),
+        RunFault::BadHead { frame, byte } => slot_line(
+            "isdbt: 15 bad frame head: frame ",
+            frame,
+            " byte ",
+            u32::from(byte),
+        ),
     }
 }
 

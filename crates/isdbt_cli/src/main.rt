@@ -3,8 +3,8 @@
 //! - `remux MODE GUARD PLAN A=NAME [B=NAME [C=NAME]]` makes broadcast packets of the layers' transport packets.
 //! - `code MODE GUARD PLAN IN=NAME [v2]` makes cells of broadcast packets. With `v2` each frame has a head, which says its
 //!   mode and guard interval.
-//! - `receive MODE GUARD IN=NAME` makes broadcast packets of cells, each layer's packets put off by its delay. The setting
-//!   it reads from the TMCC words of the frames. It reads frames without heads alone, so far.
+//! - `receive [MODE GUARD] IN=NAME` makes broadcast packets of cells, each layer's packets put off by its delay. The setting
+//!   it reads from the TMCC words of the frames. Without MODE and GUARD the frames have heads, and it reads both from them.
 //!
 //! A PLAN is `SETTING {@FRAME [MODE GUARD] SETTING}`: what frame 0 sends, and at most seven switches, each from a frame on. A
 //! switch that names no mode and guard interval keeps those before it. Where one brings others, `code` wants `v2`.

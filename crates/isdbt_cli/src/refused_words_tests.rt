@@ -240,7 +240,7 @@ fn places_of_faults_of_code(rt: HostRuntime) -> Result<(), Fail> {
 }
 
 /// Words that begin no `receive`.
-const RECEIVE: [WordRow; 20] = [
+const RECEIVE: [WordRow; 27] = [
     WordRow {
         words: &["Receive", "1", "1/4", "IN=x"],
         place: 0,
@@ -270,8 +270,36 @@ const RECEIVE: [WordRow; 20] = [
         place: 1,
     },
     WordRow {
-        words: &["receive", "IN=x"],
+        words: &["receive", "IN="],
         place: 1,
+    },
+    WordRow {
+        words: &["receive", "A=x"],
+        place: 1,
+    },
+    WordRow {
+        words: &["receive", "v2", "IN=x"],
+        place: 1,
+    },
+    WordRow {
+        words: &["receive", "1/4", "IN=x"],
+        place: 1,
+    },
+    WordRow {
+        words: &["receive", WIDE, "IN=x"],
+        place: 1,
+    },
+    WordRow {
+        words: &["receive", "IN=x", ""],
+        place: 2,
+    },
+    WordRow {
+        words: &["receive", "IN=x", "v2"],
+        place: 2,
+    },
+    WordRow {
+        words: &["receive", "IN=x", "1", "1/4"],
+        place: 2,
     },
     WordRow {
         words: &["receive", "1"],

@@ -3,8 +3,6 @@
 ghost use Rattle.std.specs.Prelude.{◌≡◌, ℕ, ◌≤◌, List, ◌↔◌, false, Some, option_map};
 ghost use Rattle.std.specs.declared.option.Option.{Option as Maybe};
 ghost use Rattle.isdbt_base.specs.declared.kinds.Layer.{Layer as Which};
-ghost use Rattle.isdbt_base.specs.declared.kinds.Mode.{Mode as SomeMode};
-ghost use Rattle.isdbt_base.specs.declared.kinds.Guard.{Guard as SomeGuard};
 ghost use Rattle.isdbt_base.specs.Plans.{Schedule, IsPlan};
 ghost use Rattle.isdbt_base.specs.declared.stream.Form.{Form as SomeForm};
 ghost use Rattle.isdbt_base.specs.declared.stream.Writing.{Writing as SomeWriting};
@@ -19,7 +17,7 @@ ghost use Rattle.remux_core.specs.Parts.{IsGood};
 ghost use Rattle.remux_core.specs.Answers.{RemuxAnswer, RemuxCause};
 ghost use Rattle.coder_core.specs.SentCells.{sent_frame};
 ghost use Rattle.coder_core.specs.Answers.{code_kind, code_command};
-ghost use Rattle.seg_receiver.specs.CellStream.{View as SomeView, first_version, view_of, writing_of, AreInRow};
+ghost use Rattle.seg_receiver.specs.CellStream.{View as SomeView, view_of, writing_of, AreInRow, NoBadHead};
 ghost use Rattle.seg_receiver.specs.Delivered.{CanCarry, ArePackets, IsNear, delivered};
 ghost use Rattle.seg_receiver.specs.ReceiveAnswers.{receive_kind, receive_command};
 ghost use Rattle.isdbt_cli.specs.Chain.{written_stream, IsDoneWith, IsReceivedAs, WroteNear, IsChain};
@@ -37,7 +35,7 @@ use crate::lines::write_line;
 use crate::words::Words;
 use coder_core::code;
 use edge_io::{Failed, Seat, Shelf, Sink};
-use isdbt_base::{Guard, Mode, Plan, Writing};
+use isdbt_base::{Form, Plan, Reading, Writing};
 use remux_core::remux;
 use seg_receiver::receive;
 use std::alloc::Global;
@@ -104,18 +102,17 @@ fn run_code<H: Shelf, K: Sink>(
     }
 }
 
-/// Receives the cells of the input of this name.
+/// Receives the cells of the input of this name, a stream of this version.
 fn run_receive<H: Shelf, K: Sink>(
     alloc: Global,
-    mode: Mode,
-    guard: Guard,
+    form: Form,
     name: &str,
     shelf: &mut H,
     out: &mut K,
 ) -> Outcome
     requires { (seat : Place) → H.is_open shelf.old seat ≡ false }
     ensures answer { (stream : List ℕ) → H.holds shelf.old name.now ≡ Some stream
-        → EndsSo run_fault_of_receive (λ seat. K.written out.new ≡ K.written out.old) (LoneAnswer receive_kind (receive_command (first_version mode guard stream) false stream frame_limit) (K.written out.old) (K.written out.new) (H.left shelf.new seats.In)) result }
+        → EndsSo run_fault_of_receive (λ seat. K.written out.new ≡ K.written out.old) (LoneAnswer receive_kind (receive_command (view_of form stream) false stream frame_limit) (K.written out.old) (K.written out.new) (H.left shelf.new seats.In)) result }
     ensures cause { EndsSo run_fault_of_receive (OpenFailed (lone_name name.now) (H.faults shelf.old) (H.faults shelf.new) (K.faults out.old) (K.faults out.new))
         (LoneCause receive_kind (H.faults shelf.old) (H.faults shelf.new) (K.faults out.old) (K.faults out.new)) result }
     ensures seats { SeatsAfter (lone_name name.now) (H.is_open shelf.new) result }
@@ -126,7 +123,7 @@ fn run_receive<H: Shelf, K: Sink>(
         Ok(()) => {}
         Err(Failed) => return Outcome::Fault(RunFault::OpenFault(Seat::In)),
     }
-    match receive(alloc, mode, guard, MOST_FRAMES, shelf, out) {
+    match receive(alloc, Reading { form }, MOST_FRAMES, shelf, out) {
         Ok(frames) => Outcome::Done(frames),
         Err(fault) => Outcome::Fault(RunFault::from(fault)),
     }
@@ -150,7 +147,7 @@ fn run_command<H: Shelf, K: Sink>(
     match command {
         Command::Remux { plan, a, b, c } => run_remux(alloc, &plan, a, b, c, shelf, out),
         Command::Code { plan, how, name } => run_code(alloc, &plan, how, name, shelf, out),
-        Command::Receive { mode, guard, name } => run_receive(alloc, mode, guard, name, shelf, out),
+        Command::Receive { form, name } => run_receive(alloc, form, name, shelf, out),
     }
 }
 
@@ -207,16 +204,17 @@ pub fn run<H: Shelf, K: Sink, E: Sink>(
     ensures code_near { (p : Schedule) (how : SomeWriting) (name : Word) (input : List ℕ) (m : ℕ) → Spells words.now (code p how name) → H.holds shelf.old name ≡ Some input → IsBytes input
         → result ≡ Outcome.Done m → WroteNear how p input m (K.written out.old) (K.written out.new) }
 
-    // Cells that are near those of a plan and no fault of the outside: the packets of the plan's frames, each put off by its
-    // layer's delay, and no others, or no memory.
-    ensures receive_near { (p : Schedule) (frames : FramePackets) (count : ℕ) (mode : SomeMode) (guard : SomeGuard) (name : Word) (stream : List ℕ) → Spells words.now (receive mode guard name)
-        → H.holds shelf.old name ≡ Some stream → IsPlan p → ArePackets p frames count → IsNear (first_version mode guard stream) p frames count → count ≤ frame_limit
+    // Cells that are near those of a plan, in either version of the stream, and no fault of the outside: the packets of the
+    // plan's frames, each put off by its layer's delay, and no others, or no memory.
+    ensures receive_near { (p : Schedule) (frames : FramePackets) (count : ℕ) (form : SomeForm) (name : Word) (stream : List ℕ) → Spells words.now (receive form name)
+        → H.holds shelf.old name ≡ Some stream → IsPlan p → ArePackets p frames count → IsNear (view_of form stream) p frames count → count ≤ frame_limit
         → NothingRose (lone_name name) (H.faults shelf.old) (H.faults shelf.new) (K.faults out.old) (K.faults out.new)
         → IsDoneWith count (delivered p frames count) (K.written out.old) (K.written out.new) result }
 
-    // Three facts of the commands, whatever the words are. A view that is near a plan is received as what is delivered of it:
-    // so after a failed read or write too what was written is a front part of the delivered stream.
-    ensures near_received { (v : SomeView) (p : Schedule) (frames : FramePackets) (count : ℕ) → IsPlan p → AreInRow v count → ArePackets p frames count → IsNear v p frames count
+    // Three facts of the commands, whatever the words are. A view that is near a plan, whose frames stand in a row and of
+    // which no head is refused, is received as what is delivered of it: so after a failed read or write too what was written
+    // is a front part of the delivered stream. A stream of either version that is near a plan is such a view.
+    ensures near_received { (v : SomeView) (p : Schedule) (frames : FramePackets) (count : ℕ) → IsPlan p → AreInRow v count → NoBadHead v count → ArePackets p frames count → IsNear v p frames count
         → count ≤ frame_limit → IsReceivedAs v p frames count }
 
     // The cells of a plan, as a coding writes them in a version of the stream that can carry it, are near it.

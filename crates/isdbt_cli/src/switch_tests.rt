@@ -101,6 +101,9 @@ const CODE_OVER_MODES: &[&str] = &[
     "v2",
 ];
 
+/// A receiving of these cells, with the mode and the guard interval of their heads.
+const RECEIVE_OVER_MODES: &[&str] = &["receive", "IN=a"];
+
 /// Bytes at which frames begin, and the mode and the guard interval in their heads: four frames of mode 1, and three of mode 2
 /// behind them.
 const HEADS: [(usize, u8, u8); 4] = [
@@ -121,5 +124,7 @@ fn mode_changes_at_a_switch(rt: HostRuntime) -> Result<(), Fail> {
         let frame = cells.get(start..).unwrap_or(&[]);
         assert!(rt; frame.starts_with(&[0x49, 0x53, 0x43, 0x32, mode, guard, 0x00, 0x00]));
     }
+    let back = product_of(alloc, RECEIVE_OVER_MODES, &cells, &[])?;
+    assert_eq!(rt; back.len(), RUNS[1].written);
     Ok(())
 }

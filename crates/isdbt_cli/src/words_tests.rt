@@ -2,7 +2,7 @@
 
 use crate::command::Command;
 use crate::testing::{words_in, words_of};
-use isdbt_base::{DepthCode, Guard, LayerSetting, Mode, Modulation, Plan, Rate, Setting};
+use isdbt_base::{DepthCode, Form, Guard, LayerSetting, Mode, Modulation, Plan, Rate, Setting};
 use std::alloc::Global;
 use std::process::Abort;
 use std::test::Fail;
@@ -253,18 +253,31 @@ const GUARDS: [(&str, Guard); 4] = [
 /// The input's word and its name.
 const INPUTS: [(&str, &str); 3] = [("IN=x", "x"), ("IN=IN=", "IN="), ("IN=-", "-")];
 
-/// Checks words that are a `receive`, for each mode and guard interval.
-fn check_receive(rt: &impl Abort, alloc: Global, input: (&str, &str)) -> Result<(), Fail> {
+/// Checks words that are a `receive` of a stream of this version.
+fn check_receive(
+    rt: &impl Abort,
+    alloc: Global,
+    list: &[&str],
+    version: Form,
+    input: &str,
+) -> Result<(), Fail> {
+    let words = words_of(alloc, list)?;
+    let Command::Receive { form, name } = words.command()? else {
+        return Err(Fail::from("the words are another command"));
+    };
+    assert_eq!(rt; form, version);
+    assert!(rt; name == input);
+    Ok(())
+}
+
+/// Checks the words of both versions, of version 1 for each mode and guard interval.
+fn check_versions(rt: &impl Abort, alloc: Global, input: (&str, &str)) -> Result<(), Fail> {
+    check_receive(rt, alloc, &["receive", input.0], Form::V2, input.1)?;
     for number in 0..12usize {
-        let (mode_word, wanted_mode) = MODES[number % 3];
-        let (guard_word, wanted_guard) = GUARDS[number / 3];
-        let words = words_of(alloc, &["receive", mode_word, guard_word, input.0])?;
-        let Command::Receive { mode, guard, name } = words.command()? else {
-            return Err(Fail::from("the words are another command"));
-        };
-        assert_eq!(rt; mode, wanted_mode);
-        assert_eq!(rt; guard, wanted_guard);
-        assert!(rt; name == input.1);
+        let (mode_word, mode) = MODES[number % 3];
+        let (guard_word, guard) = GUARDS[number / 3];
+        let list = ["receive", mode_word, guard_word, input.0];
+        check_receive(rt, alloc, &list, Form::V1 { mode, guard }, input.1)?;
     }
     Ok(())
 }
@@ -272,7 +285,7 @@ fn check_receive(rt: &impl Abort, alloc: Global, input: (&str, &str)) -> Result<
 #[test]
 fn receiving(rt: HostRuntime) -> Result<(), Fail> {
     for input in INPUTS {
-        check_receive(&rt, rt.alloc(), input)?;
+        check_versions(&rt, rt.alloc(), input)?;
     }
     Ok(())
 }

@@ -1,52 +1,40 @@
-use Rattle.std.proofs.Common.{[], ◌∷◌, ◌++◌, ap, ◌∙◌}
+use Rattle.std.proofs.Common.{◌++◌, ap, ◌∙◌}
 use Rattle.std.specs.Prelude.{codes}
 use Rattle.std.proofs.lemmas.Result.{err_from_is_err_and}
 use Rattle.std.proofs.lemmas.List.{append-nil}
-use Rattle.isdbt_cli.specs.CommandLines.{mode_word, guard_word, IsName}
-use Rattle.isdbt_cli.specs.Parsing.{IsAny, Follows}
-use Rattle.isdbt_cli.proofs.Stuck.{stuck_piece, stuck_end, reads_none, reads_both}
-use Rattle.isdbt_cli.proofs.ReceiveSpelling.{mode_words, read_name, follows, follows_mode, mode_follows, follows_guard, guard_follows, follows_name, name_follows, end_follows, spells}
+use Rattle.isdbt_cli.specs.CommandLines.{form_words, IsName}
+use Rattle.isdbt_cli.specs.Parsing.{Follows}
+use Rattle.isdbt_cli.proofs.Stuck.{stuck_word, stuck_end, reads_both}
+use Rattle.isdbt_cli.proofs.PlanLines.{input_words}
+use Rattle.isdbt_cli.proofs.ReceiveSpelling.{reads_form, follows, stuck_at_guard, follows_some, name_follows, end_follows, spells}
 use Rattle.isdbt_cli.proofs.grammar.receive.Goals as goal
 
-pub returns-in_err-mode : goal.returns-in_err-mode
-returns-in_err-mode c =
+pub returns-in_err-form : goal.returns-in_err-form
+returns-in_err-form c =
     let p = err_from_is_err_and c.from_residual.result c.from_residual.ensures.1 in
-    rw (p.1, p.2) (stuck_piece IsAny (λ m. mode_word m ∷ []) (Follows (codes "receive")) [] c.args.words.now c.args.words.now c.in_err-mode.field-0.0
-    (reads_none c.args.words.now) follows_mode mode_follows c.in_err-mode.ensures.err)
+    rw (p.1, p.2) (stuck_at_guard c.args.words.now c.in_err-form.field-0.0 c.in_err-form.ensures.err)
 
-pub returns-in_err-guard : goal.returns-in_err-guard
-returns-in_err-guard c =
-    let p = err_from_is_err_and c.from_residual-in_err-guard.result c.from_residual-in_err-guard.ensures.1 in
-    let m = c.in_ok-mode.mode in
-    rw (p.1, p.2) (stuck_piece IsAny (λ g. guard_word g ∷ []) (Follows (codes "receive"))
-    (mode_word m ∷ []) c.args.words.now c.mode.new.words c.in_err-guard.field-0.0 c.in_ok-mode.ensures.ok (follows_guard m) (guard_follows m) c.in_err-guard.ensures.err)
-
-pub returns-in_err-input : goal.returns-in_err-input
-returns-in_err-input c =
-    let p = err_from_is_err_and c.from_residual-in_err-input.result c.from_residual-in_err-input.ensures.1 in
-    let m = c.in_ok-mode.mode in
-    let g = c.in_ok-guard.guard in
-    let reads = reads_both (mode_word m ∷ []) (guard_word g ∷ []) c.args.words.now c.mode.new.words c.guard.new.words c.in_ok-mode.ensures.ok c.in_ok-guard.ensures.ok in
-    rw (p.1, p.2) (stuck_piece IsName (λ name. (codes "IN=" ++ name) ∷ []) (Follows (codes "receive")) (mode_words m g) c.args.words.now c.guard.new.words c.in_err-input.field-0.0 reads
-    (follows_name m g) (name_follows m g) c.in_err-input.ensures.err)
+pub returns-in_err-name : goal.returns-in_err-name
+returns-in_err-name c =
+    let p = err_from_is_err_and c.from_residual-in_err-name.result c.from_residual-in_err-name.ensures.1 in
+    let form = c.in_ok-form.form in
+    let read = c.in_ok-form.ensures.ok in
+    rw (p.1, p.2) (stuck_word IsName (λ name. codes "IN=" ++ name) (Follows (codes "receive")) (form_words form) c.args.words.now c.form.new.words c.in_err-name.field-0.0
+    (reads_form form c.args.words.now c.form.new.words read) c.in_err-name.ensures.err (follows_some form) (name_follows form c.args.words.now c.form.new.words read))
 
 pub returns-in_err-end : goal.returns-in_err-end
 returns-in_err-end c =
     let p = err_from_is_err_and c.from_residual-in_err-end.result c.from_residual-in_err-end.ensures.1 in
-    let m = c.in_ok-mode.mode in
-    let g = c.in_ok-guard.guard in
-    let n = c.in_ok-input.input.now in
-    let modes = reads_both (mode_word m ∷ []) (guard_word g ∷ []) c.args.words.now c.mode.new.words c.guard.new.words c.in_ok-mode.ensures.ok c.in_ok-guard.ensures.ok in
-    let reads = reads_both (mode_words m g) ((codes "IN=" ++ n) ∷ []) c.args.words.now c.guard.new.words c.name.new.words modes c.in_ok-input.ensures.ok in
-    rw (p.1, p.2) (stuck_end (Follows (codes "receive"))
-    (read_name m g n) c.args.words.now c.name.new.words c.in_err-end.field-0.0 reads c.in_err-end.ensures.err.0 c.in_err-end.ensures.err.1 (follows m g n c.in_ok-input.ensures.name)
-    (end_follows m g n))
+    let form = c.in_ok-form.form in
+    let n = c.in_ok-name.name.now in
+    let reads = reads_both (form_words form) (input_words n) c.args.words.now c.form.new.words c.name.new.words (reads_form form c.args.words.now c.form.new.words c.in_ok-form.ensures.ok) c.in_ok-name.ensures.ok in
+    rw (p.1, p.2) (stuck_end (Follows (codes "receive")) (form_words form ++ input_words n) c.args.words.now c.name.new.words c.in_err-end.field-0.0 reads c.in_err-end.ensures.err.0 c.in_err-end.ensures.err.1
+    (follows form n c.in_ok-name.ensures.name) (end_follows form n))
 
 pub returns : goal.returns
 returns c =
-    let m = c.in_ok-mode.mode in
-    let g = c.in_ok-guard.guard in
-    let n = c.in_ok-input.input.now in
-    let modes = reads_both (mode_word m ∷ []) (guard_word g ∷ []) c.args.words.now c.mode.new.words c.guard.new.words c.in_ok-mode.ensures.ok c.in_ok-guard.ensures.ok in
-    let reads = reads_both (mode_words m g) ((codes "IN=" ++ n) ∷ []) c.args.words.now c.guard.new.words c.name.new.words modes c.in_ok-input.ensures.ok in
-    spells m g n c.args.words.now.words c.in_ok-input.ensures.name (reads.split ∙ ap (λ ws. read_name m g n ++ ws) c.in_ok-end.ensures.ok ∙ append-nil (read_name m g n))
+    let form = c.in_ok-form.form in
+    let n = c.in_ok-name.name.now in
+    let reads = reads_both (form_words form) (input_words n) c.args.words.now c.form.new.words c.name.new.words (reads_form form c.args.words.now c.form.new.words c.in_ok-form.ensures.ok) c.in_ok-name.ensures.ok in
+    spells form n c.args.words.now.words c.in_ok-name.ensures.name
+    (reads.split ∙ ap (λ ws. (form_words form ++ input_words n) ++ ws) c.in_ok-end.ensures.ok ∙ append-nil (form_words form ++ input_words n))

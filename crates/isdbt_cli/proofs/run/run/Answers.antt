@@ -3,18 +3,15 @@ use Rattle.isdbt_base.specs.Outcome.{product}
 use Rattle.edge_io.specs.declared.shelf.Seat.TheVariants as seats
 use Rattle.coder_core.specs.SentCells.{sent_frame}
 use Rattle.remux_core.specs.Multiplex.{multiplexed}
-use Rattle.isdbt_base.specs.declared.stream.Form.TheVariants.{V1}
 use Rattle.seg_receiver.proofs.AcceptedStream.{accepted-written}
-use Rattle.seg_receiver.specs.CellStream.{first_version}
 use Rattle.seg_receiver.specs.Delivered.{delivered}
-use Rattle.seg_receiver.proofs.PlanViews.{in_row}
 use Rattle.isdbt_cli.specs.Chain.{written_stream}
 use Rattle.isdbt_cli.specs.CommandLines.{remux, code, receive}
 use Rattle.isdbt_cli.specs.FrameLimit.{frame_limit}
 use Rattle.isdbt_cli.specs.Parsing.{command_of}
 use Rattle.isdbt_cli.proofs.OnePlace.{no_place, one_command}
 use Rattle.isdbt_cli.proofs.RunOutcomes.{ok_usage, fault_usage, same_answer, same_cause, same_seats, complete, good, coded, given, coded_done}
-use Rattle.isdbt_cli.proofs.Chains.{near_received, near_cells, chain, coded_multiplex, wrote_near}
+use Rattle.isdbt_cli.proofs.Chains.{near_received, near_stream, near_cells, chain, coded_multiplex, wrote_near}
 use Rattle.isdbt_cli.proofs.run.run.Goals as goal
 
 pub returns-in-Ok-clause-usage : goal.returns-in-Ok-clause-usage
@@ -58,11 +55,11 @@ returns-in-Ok-clause-code_near g c = λ p how name input m spelled hold bytes do
     (same_answer (command_of c.in-Ok.command) (code p how name) _ _ _ _ _ same c.run_command-outcome.ensures.answer input hold) done)
 
 pub returns-in-Ok-clause-receive_near : goal.returns-in-Ok-clause-receive_near
-returns-in-Ok-clause-receive_near g c = λ p frames count mode guard name stream spelled hold plan packets near few none.
-    let same = one_command c.args.words.now (command_of c.in-Ok.command) (receive mode guard name) c.in-Ok.ensures spelled in
-    let all = near_received (first_version mode guard stream) p frames count plan (in_row (V1 mode guard) stream count near.whole) packets near few in
+returns-in-Ok-clause-receive_near g c = λ p frames count form name stream spelled hold plan packets near few none.
+    let same = one_command c.args.words.now (command_of c.in-Ok.command) (receive form name) c.in-Ok.ensures spelled in
+    let all = near_stream form stream p frames count plan packets near few in
     let whole : count ≤ count = omega arith in
-    given (g.H.Shelf.holds c.args.shelf.now) _ _ (g.H.Shelf.left c.run_command-outcome.new.shelf) _ _ _ _ c.run_command-outcome.result mode guard name stream count (delivered p frames count) (same_answer (command_of c.in-Ok.command) (receive mode guard name) _ _ _ _ _ same c.run_command-outcome.ensures.answer stream hold) (same_cause (command_of c.in-Ok.command) (receive mode guard name) _ _ _ _ _ same c.run_command-outcome.ensures.cause) none all.outcome (all.product count whole)
+    given (g.H.Shelf.holds c.args.shelf.now) _ _ (g.H.Shelf.left c.run_command-outcome.new.shelf) _ _ _ _ c.run_command-outcome.result form name stream count (delivered p frames count) (same_answer (command_of c.in-Ok.command) (receive form name) _ _ _ _ _ same c.run_command-outcome.ensures.answer stream hold) (same_cause (command_of c.in-Ok.command) (receive form name) _ _ _ _ _ same c.run_command-outcome.ensures.cause) none all.outcome (all.product count whole)
 
 pub returns-in-Ok-clause-near_received : goal.returns-in-Ok-clause-near_received
 returns-in-Ok-clause-near_received g c = near_received
@@ -98,7 +95,7 @@ pub returns-in-Err-clause-code_near : goal.returns-in-Err-clause-code_near
 returns-in-Err-clause-code_near g c = λ p how name input m spelled hold bytes done. absurd (no_place _ (code p how name) _ spelled c.in-Err.ensures)
 
 pub returns-in-Err-clause-receive_near : goal.returns-in-Err-clause-receive_near
-returns-in-Err-clause-receive_near g c = λ p frames count mode guard name stream spelled hold plan packets near few none. absurd (no_place _ (receive mode guard name) _ spelled c.in-Err.ensures)
+returns-in-Err-clause-receive_near g c = λ p frames count form name stream spelled hold plan packets near few none. absurd (no_place _ (receive form name) _ spelled c.in-Err.ensures)
 
 pub returns-in-Err-clause-near_received : goal.returns-in-Err-clause-near_received
 returns-in-Err-clause-near_received g c = near_received
