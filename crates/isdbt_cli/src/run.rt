@@ -213,7 +213,8 @@ pub fn run<H: Shelf, K: Sink, E: Sink>(
 
     // Three facts of the commands, whatever the words are. A view that is near a plan, whose frames stand in a row and of
     // which no head is refused, is received as what is delivered of it: so after a failed read or write too what was written
-    // is a front part of the delivered stream. A stream of either version that is near a plan is such a view.
+    // is a front part of the delivered stream. By laws of `seg_receiver` a stream of either version that is near a plan is
+    // such a view.
     ensures near_received { (v : SomeView) (p : Schedule) (frames : FramePackets) (count : ℕ) → IsPlan p → AreInRow v count → NoBadHead v count → ArePackets p frames count → IsNear v p frames count
         → count ≤ frame_limit → IsReceivedAs v p frames count }
 
