@@ -1,6 +1,6 @@
 -- The receiver of an epoch: what its parts give out.
-use Rattle.std.proofs.Common.{◌≡◌, ℕ, ◌+◌, ◌*◌, ◌≤◌, ◌<◌, Bool, true, false, List, [], refl, ap, sym, ◌∙◌, arith}
-use Rattle.std.specs.Prelude.{nat_le, slice_get, if◌then◌else◌}
+use Rattle.std.proofs.Common.{◌≡◌, ℕ, ◌+◌, ◌*◌, ◌≤◌, Bool, true, false, List, [], refl, ap, sym, ◌∙◌, arith}
+use Rattle.std.specs.Prelude.{nat_le, slice_get}
 use Rattle.isdbt_base.specs.declared.kinds.Mode.{Mode}
 use Rattle.isdbt_base.specs.declared.kinds.Guard.{Guard}
 use Rattle.isdbt_base.specs.LayerParameters.{LayerParameters}

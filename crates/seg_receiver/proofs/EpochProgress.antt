@@ -8,7 +8,7 @@ use Rattle.std.proofs.lemmas.Bool.{ne_eqb, eq-eqb, cond_both}
 use Rattle.isdbt_base.specs.declared.kinds.Mode.{Mode}
 use Rattle.isdbt_base.specs.declared.kinds.Guard.{Guard}
 use Rattle.isdbt_base.specs.Outcome.{first_some}
-use Rattle.isdbt_base.specs.Parameters.{Parameters, IsAccepted, layer_of}
+use Rattle.isdbt_base.specs.Parameters.{IsAccepted, layer_of}
 use Rattle.edge_io.specs.Known.{append_known}
 use Rattle.edge_io.specs.FrameAnswers.{WantsMemory, Took}
 use Rattle.frame_order.specs.OrderedFrame.{ordered_frame}

@@ -1,5 +1,5 @@
 -- What the bytes of a head say, in the second version of the stream.
-use Rattle.std.proofs.Common.{◌≡◌, ℕ, ◌+◌, ◌≤◌, ◌<◌, Bool, List, false, Some, None, Ok, length, take, drop, ap, sym, ◌∙◌, arith, inl, inr, length-drop, drop-drop}
+use Rattle.std.proofs.Common.{◌≡◌, ℕ, ◌+◌, ◌≤◌, ◌<◌, Bool, List, Some, None, Ok, length, take, drop, ap, sym, ◌∙◌, arith, inl, inr, length-drop, drop-drop}
 use Rattle.std.specs.declared.option.Option.{Option}
 use Rattle.std.proofs.lemmas.List.{take_all, drop_all}
 use Rattle.isdbt_base.specs.declared.kinds.Mode.{Mode}

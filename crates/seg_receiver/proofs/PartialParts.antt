@@ -1,6 +1,6 @@
 -- What partial reception gives out of a frame.
-use Rattle.std.proofs.Common.{◌≡◌, ℕ, zero, suc, ◌+◌, ◌*◌, ◌/◌, ◌%◌, ◌≤◌, ◌<◌, List, [], ◌++◌, length, take, drop, flat_map, Some, true, refl, arith, ap, sym, subst, ◌∙◌, length-drop, drop-drop}
-use Rattle.std.specs.Prelude.{if◌then◌else◌, nat_le, slice_get, min}
+use Rattle.std.proofs.Common.{◌≡◌, ℕ, zero, suc, ◌+◌, ◌*◌, ◌≤◌, ◌<◌, List, ◌++◌, length, take, drop, flat_map, Some, true, refl, arith, ap, sym, subst, ◌∙◌, drop-drop}
+use Rattle.std.specs.Prelude.{nat_le, min}
 use Rattle.std.specs.List.{range_with_len}
 use Rattle.std.proofs.Math.Seq.{take-add}
 use Rattle.std.proofs.Math.Nat.{mod-eq_of_lt}
@@ -17,7 +17,6 @@ use Rattle.layer_chain.specs.SymbolReader.{IsSymbol}
 use Rattle.layer_chain.specs.LayerDecoder as layer
 use Rattle.layer_chain.specs.declared.layer_decoder.LayerDecoder.{LayerDecoder}
 use Rattle.seg_receiver.specs.Received.{segment_bits, partial_packets}
-use Rattle.seg_receiver.specs.UsedDecoders.{AreCellsFrom}
 use Rattle.seg_receiver.specs.PartialReceiver.{AreSegmentCells}
 use Rattle.seg_receiver.proofs.DecoderParts.{is_symbol}
 

@@ -1,11 +1,9 @@
 -- What the parts of the receiving say: a frame, an epoch, and the end at the limit of frames.
 use Rattle.std.specs.Prelude.{◌≡◌, ℕ, suc, ◌+◌, ◌≤◌, ◌<◌, ◌⊎◌, Bool, List, length, take, drop, Some, None, Ok, Err}
-use Rattle.ts_packet.specs.Packets.{null_packet}
 use Rattle.std.specs.declared.option.Option.{Option}
 use Rattle.std.specs.declared.result.Result.{Result}
 use Rattle.isdbt_base.specs.declared.kinds.Mode.{Mode}
 use Rattle.isdbt_base.specs.declared.kinds.Guard.{Guard}
-use Rattle.isdbt_base.specs.Parameters.{Parameters, layer_of}
 use Rattle.edge_io.specs.declared.shelf.Seat.TheVariants as seats
 use Rattle.edge_io.specs.FrameAnswers.{Passed, Wrote, Finished, LoneAnswer}
 use Rattle.bts_info.specs.Fields.{Tag}
@@ -16,9 +14,8 @@ use Rattle.seg_receiver.specs.declared.fault.ReceiveFault.{ReceiveFault}
 use Rattle.seg_receiver.specs.declared.fault.ReceiveFault.TheVariants.{Truncated}
 use Rattle.seg_receiver.specs.declared.epochs.EpochEnd.{EpochEnd}
 use Rattle.seg_receiver.specs.declared.epochs.EpochEnd.TheVariants.{Input, Next}
-use Rattle.seg_receiver.specs.CellStream.{FrameCells, stream_word, View}
+use Rattle.seg_receiver.specs.CellStream.{stream_word, View}
 use Rattle.seg_receiver.specs.Epochs.{epoch_start, epoch_head}
-use Rattle.seg_receiver.specs.Received.{setting_packet}
 use Rattle.seg_receiver.specs.ReceiveRefusals.{word_refusal, word_before}
 use Rattle.seg_receiver.specs.ReceiveAnswers.{receive_kind, receive_command}
 

@@ -1,6 +1,5 @@
-use Rattle.std.proofs.Common.{◌≡◌, ◌≤◌, true, false, length, drop, refl, subst, sym, ap, ◌∙◌}
+use Rattle.std.proofs.Common.{◌≤◌, length, drop, subst, sym, ◌∙◌}
 use Rattle.std.proofs.lemmas.List.{take_at}
-use Rattle.isdbt_base.specs.Numbers.{slots_per_frame}
 use Rattle.seg_receiver.specs.CellStream.{segment_cells}
 use Rattle.seg_receiver.specs.EpochReceiver.{frame_room, IsReceiverOf, StandsFor}
 use Rattle.seg_receiver.specs.declared.epoch_receiver.EpochReceiver.{EpochReceiver}

@@ -1,4 +1,4 @@
-use Rattle.std.proofs.Common.{◌≡◌, ◌+◌, ◌*◌, ◌≤◌, arith, ℕ, false, List, length, drop, vec_len, sym, subst, ◌∙◌, Ok, Err, Some, None, IfOk, IfSome}
+use Rattle.std.proofs.Common.{◌≡◌, ◌+◌, arith, ℕ, List, length, drop, vec_len, sym, subst, ◌∙◌, Ok, Err, Some, None, IfOk, IfSome}
 use Rattle.std.specs.declared.option.Option.{Option}
 use Rattle.std.proofs.lemmas.List.{take_at}
 use Rattle.isdbt_base.specs.declared.kinds.Mode.{Mode}
@@ -7,7 +7,6 @@ use Rattle.edge_io.specs.declared.shelf.Seat.TheVariants as seats
 use Rattle.seg_receiver.specs.CellStream.{view_of}
 use Rattle.seg_receiver.specs.EpochReceiver.{StandsFor}
 use Rattle.seg_receiver.specs.EpochAnswers.{HeadTaken, HeadAnswer, TakeAnswer, InEpoch}
-use Rattle.isdbt_base.specs.Numbers.{carriers}
 use Rattle.seg_receiver.proofs.BufferRoom.{frame-fits, cells-fit_of}
 use Rattle.seg_receiver.proofs.EpochParts.{mode-is}
 use Rattle.seg_receiver.proofs.EpochProgress.{next_due, next_head}

@@ -1,4 +1,4 @@
-use Rattle.std.proofs.Common.{◌≡◌, ◌+◌, ◌*◌, ◌≤◌, drop, true, false, refl, ap, sym, ◌∙◌, subst, arith}
+use Rattle.std.proofs.Common.{◌≡◌, ◌+◌, drop, true, refl, ap, sym, subst, arith}
 use Rattle.std.proofs.lemmas.Bool.{eq-eqb}
 use Rattle.isdbt_base.specs.declared.kinds.Mode.{Mode}
 use Rattle.isdbt_base.specs.declared.kinds.Guard.{Guard}
@@ -10,7 +10,6 @@ use Rattle.seg_receiver.specs.FrameReading.{ShowsFrame}
 use Rattle.seg_receiver.proofs.SymbolPlaces.{shows-front}
 use Rattle.seg_receiver.proofs.ViewLaws.{laid}
 use Rattle.seg_receiver.proofs.BufferRoom.{frame-fits, cells-fit_of, room-fits}
-use Rattle.isdbt_base.specs.Numbers.{carriers}
 use Rattle.seg_receiver.proofs.EpochParts.{mode-is}
 use Rattle.seg_receiver.proofs.EpochProgress.{is-given, first_in, wrote_all, wrote_some}
 use Rattle.seg_receiver.proofs.ReceiveProgress.{write-failed}

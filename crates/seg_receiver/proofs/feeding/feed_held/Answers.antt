@@ -1,4 +1,4 @@
-use Rattle.std.proofs.Common.{◌≡◌, ◌+◌, ◌*◌, ◌-◌, ◌≤◌, ℕ, List, length, take, drop, ap, sym, ◌∙◌, subst, arith, refl}
+use Rattle.std.proofs.Common.{◌≡◌, ◌+◌, ◌*◌, ◌-◌, ℕ, List, length, take, drop, ap, sym, ◌∙◌, subst, arith, refl}
 use Rattle.isdbt_base.specs.Numbers.{carriers}
 use Rattle.seg_receiver.specs.CellStream.{symbol_size}
 use Rattle.seg_receiver.specs.Receiver.{IsSymbolOf}

@@ -1,4 +1,4 @@
-use Rattle.std.proofs.Common.{false, sym, subst}
+use Rattle.std.proofs.Common.{sym, subst}
 use Rattle.edge_io.specs.declared.shelf.Seat.TheVariants as seats
 use Rattle.isdbt_base.specs.declared.stream.Form.{Form}
 use Rattle.seg_receiver.specs.CellStream.{view_of}

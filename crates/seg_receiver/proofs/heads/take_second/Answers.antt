@@ -1,4 +1,3 @@
-use Rattle.std.proofs.Common.{false}
 use Rattle.edge_io.proofs.FrameAnswers.{refused_answer}
 use Rattle.seg_receiver.specs.CellStream.{second_version}
 use Rattle.seg_receiver.specs.ReceiveAnswers.{receive_kind, receive_command}

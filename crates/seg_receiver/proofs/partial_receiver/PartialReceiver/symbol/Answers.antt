@@ -1,5 +1,3 @@
-use Rattle.std.proofs.Common.{◌≡◌, ap, ◌∙◌}
-use Rattle.isdbt_base.specs.Numbers.{layer_delay}
 use Rattle.seg_receiver.specs.Received.{segment_bits}
 use Rattle.seg_receiver.specs.PartialReceiver.{mode_of, layer_of, symbols_of}
 use Rattle.seg_receiver.proofs.PartialParts.{segment-symbol, same-stands, same-delay}
