@@ -1,5 +1,6 @@
 pub mod Numbers
 pub mod Texts
+pub mod LastWords
 pub mod LayerTexts
 pub mod SettingWords
 pub mod Stuck

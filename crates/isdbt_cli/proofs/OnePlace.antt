@@ -4,10 +4,10 @@ use Rattle.std.specs.Prelude.{codes, is_some}
 use Rattle.std.proofs.lemmas.List.{take-take, take_all, append-nil, append_cancel_left}
 use Rattle.std.proofs.lemmas.Bool.{cases_lt}
 use Rattle.isdbt_base.specs.Plans.{Schedule}
-use Rattle.isdbt_cli.specs.CommandLines.{Word, Command, remux, code, receive, Spells, CanGoOn, IsFaultAt}
+use Rattle.isdbt_cli.specs.CommandLines.{Word, part_words, Command, remux, code, receive, Spells, CanGoOn, IsFaultAt}
 use Rattle.isdbt_cli.proofs.Transmissions.{same_head, same_tail}
 use Rattle.isdbt_cli.proofs.PlanLines.{names_words, code_words, remux_spelled, code_spelled, receive_spelled, remux_or_code, remux_or_receive, code_or_receive, remux_line, code_line, same_line}
-use Rattle.isdbt_cli.proofs.CodeSpelling.{version_words-injective}
+use Rattle.isdbt_cli.proofs.LastWords.{told_last-injective}
 use Rattle.isdbt_cli.proofs.ReceiveSpelling.{same_form}
 use Rattle.isdbt_cli.proofs.Spelling.{same_names, name_of, first_word}
 
@@ -62,19 +62,19 @@ one_command words (remux p a b c) (remux q a' b' c') s t =
     let names = same_names a a' b b' c c' used_b used_c same.1 in
     ap (λ x. remux x a b c) same.0 ∙ ap (λ x. remux q x b c) names.0 ∙ ap (λ x. remux q a' x c) names.1 ∙ ap (λ x. remux q a' b' x) names.2
 one_command words (remux p a b c) (code q how name) s t = absurd (remux_or_code (same_first words (remux p a b c) (code q how name) s t))
-one_command words (remux p a b c) (receive form name) s t = absurd (remux_or_receive (same_first words (remux p a b c) (receive form name) s t))
+one_command words (remux p a b c) (receive form partial name) s t = absurd (remux_or_receive (same_first words (remux p a b c) (receive form partial name) s t))
 one_command words (code p how name) (remux q a b c) s t = absurd (remux_or_code (same_first words (remux q a b c) (code p how name) t s))
-one_command words (code p how name) (receive form name') s t = absurd (code_or_receive (same_first words (code p how name) (receive form name') s t))
-one_command words (receive form name) (remux q a b c) s t = absurd (remux_or_receive (same_first words (remux q a b c) (receive form name) t s))
-one_command words (receive form name) (code q how name') s t = absurd (code_or_receive (same_first words (code q how name') (receive form name) t s))
-one_command words (receive form name) (receive form' name') s t =
-    let same = same_form form form' name name' [] [] (same_tail (sym (receive_spelled form name words s.spelled) ∙ receive_spelled form' name' words t.spelled)) in
-    ap (λ x. receive x name) same.0 ∙ ap (λ x. receive form' x) same.1
+one_command words (code p how name) (receive form partial name') s t = absurd (code_or_receive (same_first words (code p how name) (receive form partial name') s t))
+one_command words (receive form partial name) (remux q a b c) s t = absurd (remux_or_receive (same_first words (remux q a b c) (receive form partial name) t s))
+one_command words (receive form partial name) (code q how name') s t = absurd (code_or_receive (same_first words (code q how name') (receive form partial name) t s))
+one_command words (receive form partial name) (receive form' partial' name') s t =
+    let same = same_form form form' name name' (part_words partial) (part_words partial') (same_tail (sym (receive_spelled form partial name words s.spelled) ∙ receive_spelled form' partial' name' words t.spelled)) in
+    ap (λ x. receive x partial name) same.0 ∙ ap (λ x. receive form' x name) (told_last-injective (codes "partial") partial partial' same.2) ∙ ap (λ x. receive form' partial' x) same.1
 one_command words (code p how name) (code q how' name') s t =
     let k = code_spelled p how name words s.spelled in
     let l = code_spelled q how' name' words t.spelled in
     let line : List Word = k.0 ++ code_words how name in
     let same = same_line true line (code_line p how name k.0 line s.command k.1 refl) (code_line q how' name' l.0 line t.command l.1 (same_tail (sym k.2 ∙ l.2))) in
-    let versions : how.v2 ≡ how'.v2 = version_words-injective how.v2 how'.v2 (same_tail same.1) in
+    let versions : how.v2 ≡ how'.v2 = told_last-injective (codes "v2") how.v2 how'.v2 (same_tail same.1) in
     let names : name ≡ name' = append_cancel_left (codes "IN=") name name' (same_head same.1) in
     ap (λ x. code x how name) same.0 ∙ ap (λ x. code q (record { v2 = x }) name) versions ∙ ap (λ x. code q how' x) names

@@ -11,7 +11,7 @@ use Rattle.isdbt_base.specs.declared.stream.Form.{Form}
 use Rattle.isdbt_base.specs.Epochs.{last_sent, last_start}
 use Rattle.isdbt_base.specs.Switching.{with_switch}
 use Rattle.isdbt_base.proofs.PlanEpochs.{plan-append}
-use Rattle.isdbt_cli.specs.CommandLines.{Word, transmission_words, frame_word, switch_words, SpellSwitches, SpellPlan, other_input_words, version_words, form_words, IsName, IsNameIfGiven, remux}
+use Rattle.isdbt_cli.specs.CommandLines.{Word, transmission_words, frame_word, switch_words, SpellSwitches, SpellPlan, other_input_words, version_words, form_words, part_words, IsName, IsNameIfGiven, remux}
 use Rattle.isdbt_cli.specs.CommandLines.{code, receive, SpellCommand, IsRemux, IsCode}
 use Rattle.isdbt_cli.specs.Parsing.{Unread, Reads, IsStuck, Follows, named, StartsWith, Change, change_words, IsChange, IsLater, AddsSwitch, EndsPlan, ReadsSwitch, IsStuckInSwitch}
 use Rattle.isdbt_cli.specs.Parsing.{SpellsPlan, ReadsPlan, HasNoFrame, planned}
@@ -39,6 +39,10 @@ input_words name = (codes "IN=" ++ name) ∷ []
 abbrev pub code_words : Writing → Word → List Word
 code_words how name = (codes "IN=" ++ name) ∷ version_words how.v2
 
+-- and a receiving's: its input, and whether reception is partial
+abbrev pub receive_words : Bool → Word → List Word
+receive_words partial name = (codes "IN=" ++ name) ∷ part_words partial
+
 pub spell_remux : (p : Schedule) (a : Word) (b c : Option Word) (plan : List Word) → SpellPlan p plan → SpellCommand (remux p a b c) (codes "remux" ∷ (plan ++ names_words a b c))
 unfolding SpellCommand
 spell_remux p a b c plan s = (plan, s, rw (← named-b b, ← named-c c) refl)
@@ -58,13 +62,13 @@ pub code_spelled : (p : Schedule) (how : Writing) (name : Word) (words : List Wo
 unfolding SpellCommand
 code_spelled p how name words s = s
 
-pub spell_receive : (form : Form) (name : Word) → SpellCommand (receive form name) (codes "receive" ∷ (form_words form ++ input_words name))
+pub spell_receive : (form : Form) (partial : Bool) (name : Word) → SpellCommand (receive form partial name) (codes "receive" ∷ (form_words form ++ receive_words partial name))
 unfolding SpellCommand
-spell_receive form name = refl
+spell_receive form partial name = refl
 
-pub receive_spelled : (form : Form) (name : Word) (words : List Word) → SpellCommand (receive form name) words → words ≡ codes "receive" ∷ (form_words form ++ input_words name)
+pub receive_spelled : (form : Form) (partial : Bool) (name : Word) (words : List Word) → SpellCommand (receive form partial name) words → words ≡ codes "receive" ∷ (form_words form ++ receive_words partial name)
 unfolding SpellCommand
-receive_spelled form name words s = s
+receive_spelled form partial name words s = s
 
 -- the commands differ in their first word
 pub remux_or_code : codes "remux" ≢ codes "code"
@@ -175,10 +179,10 @@ code_line p how name read words r s e = record {
 
 pub follows_line : (coded : Bool) (words : List Word) → Follows (planned coded) words → PlanLine coded words
 follows_line false words (code p how name, s) = absurd (remux_or_code (same_head (code_spelled p how name (codes "remux" ∷ words) s.spelled).2))
-follows_line false words (receive form name, s) = absurd (remux_or_receive (same_head (receive_spelled form name (codes "remux" ∷ words) s.spelled)))
+follows_line false words (receive form partial name, s) = absurd (remux_or_receive (same_head (receive_spelled form partial name (codes "remux" ∷ words) s.spelled)))
 follows_line false words (remux p a b c, s) = (let k = remux_spelled p a b c (codes "remux" ∷ words) s.spelled in remux_line p a b c k.0 words s.command k.1 (same_tail k.2))
 follows_line true words (remux p a b c, s) = absurd (remux_or_code (sym (same_head (remux_spelled p a b c (codes "code" ∷ words) s.spelled).2)))
-follows_line true words (receive form name, s) = absurd (code_or_receive (same_head (receive_spelled form name (codes "code" ∷ words) s.spelled)))
+follows_line true words (receive form partial name, s) = absurd (code_or_receive (same_head (receive_spelled form partial name (codes "code" ∷ words) s.spelled)))
 follows_line true words (code p how name, s) = (let k = code_spelled p how name (codes "code" ∷ words) s.spelled in code_line p how name k.0 words s.command k.1 (same_tail k.2))
 
 -- ---- behind a plan's front

@@ -1,5 +1,5 @@
 -- The words of the command receive: what may follow the words that were read.
-use Rattle.std.proofs.Common.{◌≡◌, ◌≢◌, ℕ, List, [], ◌∷◌, ◌++◌, take, refl, sym, ap, ◌∙◌, subst}
+use Rattle.std.proofs.Common.{◌≡◌, ◌≢◌, ℕ, Bool, false, List, [], ◌∷◌, ◌++◌, take, refl, sym, ap, ◌∙◌, subst, append_assoc}
 use Rattle.std.specs.Prelude.{codes}
 use Rattle.std.proofs.lemmas.List.{append_cancel_left}
 use Rattle.isdbt_base.specs.declared.kinds.Mode.{Mode}
@@ -7,11 +7,11 @@ use Rattle.isdbt_base.specs.declared.kinds.Mode.TheVariants.{M1, M2, M3}
 use Rattle.isdbt_base.specs.declared.kinds.Guard.TheVariants.{G4}
 use Rattle.isdbt_base.specs.declared.stream.Form.{Form}
 use Rattle.isdbt_base.specs.declared.stream.Form.TheVariants.{V1, V2}
-use Rattle.isdbt_cli.specs.CommandLines.{Word, mode_word, guard_word, form_words, IsName, remux, code, receive, SpellCommand, Spells}
-use Rattle.isdbt_cli.specs.Parsing.{Unread, Reads, BeginsWith, IsStuck, Follows, ReadsTold, IsStuckAtGuard, told_by}
-use Rattle.isdbt_cli.proofs.Stuck.{stuck_here, reads_none}
+use Rattle.isdbt_cli.specs.CommandLines.{Word, mode_word, guard_word, form_words, part_words, IsName, remux, code, receive, SpellCommand, Spells}
+use Rattle.isdbt_cli.specs.Parsing.{Unread, Reads, BeginsWith, IsStuck, Follows, ReadsTold, IsStuckAtGuard, told_by, SpellLast}
+use Rattle.isdbt_cli.proofs.Stuck.{stuck_here, stuck_behind, reads_none}
 use Rattle.isdbt_cli.proofs.Transmissions.{some_name, same_head, same_tail, mode_word-injective, guard_word-injective}
-use Rattle.isdbt_cli.proofs.PlanLines.{input_words, spell_receive, remux_spelled, code_spelled, receive_spelled, remux_or_receive, code_or_receive}
+use Rattle.isdbt_cli.proofs.PlanLines.{input_words, receive_words, spell_receive, remux_spelled, code_spelled, receive_spelled, remux_or_receive, code_or_receive}
 
 -- ---- the version of the stream
 
@@ -40,20 +40,21 @@ reads_form V2 u v r = subst (λ (x : Unread). Reads [] u x) (sym r.0) (reads_non
 
 -- ---- a line
 
-pub follows : (form : Form) (name : Word) → IsName name → Follows (codes "receive") (form_words form ++ input_words name)
-follows form name some = (receive form name, record { command = some; spelled = spell_receive form name })
+pub follows : (form : Form) (partial : Bool) (name : Word) → IsName name → Follows (codes "receive") (form_words form ++ receive_words partial name)
+follows form partial name some = (receive form partial name, record { command = some; spelled = spell_receive form partial name })
 
--- a version and a name whose words these are
+-- a version, a name and whether reception is partial, whose words these are
 pub record IsReceive (words : List Word) : Type 0 where
   pub form : Form
+  pub partial : Bool
   pub name : Word
   pub some : IsName name
-  pub words_are : words ≡ form_words form ++ input_words name
+  pub words_are : words ≡ form_words form ++ receive_words partial name
 
 pub followed : (words : List Word) → Follows (codes "receive") words → IsReceive words
 followed words (remux p a b c, s) = absurd (remux_or_receive (sym (same_head (remux_spelled p a b c (codes "receive" ∷ words) s.spelled).2)))
 followed words (code p how name, s) = absurd (code_or_receive (sym (same_head (code_spelled p how name (codes "receive" ∷ words) s.spelled).2)))
-followed words (receive form name, s) = record { form = form; name = name; some = s.command; words_are = same_tail (receive_spelled form name (codes "receive" ∷ words) s.spelled) }
+followed words (receive form partial name, s) = record { form = form; partial = partial; name = name; some = s.command; words_are = same_tail (receive_spelled form partial name (codes "receive" ∷ words) s.spelled) }
 
 -- ---- where it gets stuck
 
@@ -61,37 +62,53 @@ followed words (receive form name, s) = record { form = form; name = name; some 
 pub stuck_at_guard : (u : Unread) (place : ℕ) → IsStuckAtGuard u place → IsStuck (Follows (codes "receive")) u place
 stuck_at_guard u place s =
     stuck_here (Follows (codes "receive")) (mode_word s.mode ∷ []) u s.behind place s.reads s.place_is
-    (guard_word G4 ∷ input_words (codes "a"), follows (V1 s.mode G4) (codes "a") some_name)
-    (λ ws f heads. (let r = followed (mode_word s.mode ∷ ws) f in go ws heads r.form r.name r.words_are))
+    (guard_word G4 ∷ receive_words false (codes "a"), follows (V1 s.mode G4) false (codes "a") some_name)
+    (λ ws f heads. (let r = followed (mode_word s.mode ∷ ws) f in go ws heads r.form r.partial r.name r.words_are))
   where
-    go : (ws : List Word) → take 1 ws ≡ take 1 s.behind.words → (form : Form) (name : Word) → mode_word s.mode ∷ ws ≡ form_words form ++ input_words name → ⊥
-    go ws heads (V1 m g) name e = s.never g (sym heads ∙ ap (take 1) (same_tail e))
-    go ws heads V2 name e = no_input s.mode name (same_head e)
+    go : (ws : List Word) → take 1 ws ≡ take 1 s.behind.words → (form : Form) (partial : Bool) (name : Word) → mode_word s.mode ∷ ws ≡ form_words form ++ receive_words partial name → ⊥
+    go ws heads (V1 m g) partial name e = s.never g (sym heads ∙ ap (take 1) (same_tail e))
+    go ws heads V2 partial name e = no_input s.mode name (same_head e)
 
 -- the name of the input
 pub follows_some : (form : Form) → (more : List Word) × Follows (codes "receive") (form_words form ++ more)
-follows_some form = (input_words (codes "a"), follows form (codes "a") some_name)
+follows_some form = (receive_words false (codes "a"), follows form false (codes "a") some_name)
 
 pub name_follows : (form : Form) (u v : Unread) → ReadsTold (told_by form) u v → (ws : List Word) → Follows (codes "receive") (form_words form ++ ws)
     → take 1 ws ≡ take 1 v.words → BeginsWith IsName (λ name. (codes "IN=" ++ name) ∷ []) ws
-name_follows form u v read ws f heads = (let r = followed (form_words form ++ ws) f in (r.name, r.some, [], go form r.form read r.name r.words_are))
+name_follows form u v read ws f heads = (let r = followed (form_words form ++ ws) f in (r.name, r.some, part_words r.partial, go form r.form read r.partial r.name r.words_are))
   where
-    go : (form other : Form) → ReadsTold (told_by form) u v → (name : Word) → form_words form ++ ws ≡ form_words other ++ input_words name → ws ≡ input_words name
-    go (V1 m g) (V1 m' g') read name e = same_tail (same_tail e)
-    go (V1 m g) V2 read name e = absurd (no_input m name (same_head e))
-    go V2 (V1 m g) read name e = absurd (read.1 m (sym heads ∙ ap (take 1) e))
-    go V2 V2 read name e = e
+    go : (form other : Form) → ReadsTold (told_by form) u v → (partial : Bool) (name : Word) → form_words form ++ ws ≡ form_words other ++ receive_words partial name → ws ≡ receive_words partial name
+    go (V1 m g) (V1 m' g') read partial name e = same_tail (same_tail e)
+    go (V1 m g) V2 read partial name e = absurd (no_input m name (same_head e))
+    go V2 (V1 m g) read partial name e = absurd (read.1 m (sym heads ∙ ap (take 1) e))
+    go V2 V2 read partial name e = e
 
--- the end
-pub end_follows : (form : Form) (name : Word) (ws : List Word) → Follows (codes "receive") ((form_words form ++ input_words name) ++ ws) → ws ≡ []
-end_follows form name ws f = go form f
-  where
-    behind : (form : Form) → Follows (codes "receive") (form_words form ++ ((codes "IN=" ++ name) ∷ ws)) → ws ≡ []
-    behind form f = (let r = followed (form_words form ++ ((codes "IN=" ++ name) ∷ ws)) f in (same_form form r.form name r.name ws [] r.words_are).2)
+-- whether reception is partial
+module _ (form : Form) (name : Word) where
+  abbrev pub Behind : List Word → Type 0
+  Behind ws = Follows (codes "receive") ((form_words form ++ input_words name) ++ ws)
 
-    go : (form : Form) → Follows (codes "receive") ((form_words form ++ input_words name) ++ ws) → ws ≡ []
-    go (V1 m g) f = behind (V1 m g) f
-    go V2 f = behind V2 f
+  part_follows : IsName name → (ws : List Word) → SpellLast (codes "partial") false ws → Behind ws
+  part_follows some ws s = subst Behind (sym s.2) (go form s.0)
+    where
+      go : (form : Form) (partial : Bool) → Follows (codes "receive") ((form_words form ++ input_words name) ++ part_words partial)
+      go (V1 m g) partial = follows (V1 m g) partial name some
+      go V2 partial = follows V2 partial name some
 
-pub spells : (form : Form) (name : Word) (words : List Word) → IsName name → words ≡ form_words form ++ input_words name → Spells (codes "receive" ∷ words) (receive form name)
-spells form name words some e = record { command = some; spelled = subst (λ (ws : List Word). SpellCommand (receive form name) (codes "receive" ∷ ws)) (sym e) (spell_receive form name) }
+  behind_part : (ws : List Word) → Behind ws → SpellLast (codes "partial") false ws
+  behind_part ws f = go form f
+    where
+      behind : (form : Form) → Follows (codes "receive") (form_words form ++ ((codes "IN=" ++ name) ∷ ws)) → SpellLast (codes "partial") false ws
+      behind form f = (let r = followed (form_words form ++ ((codes "IN=" ++ name) ∷ ws)) f in (r.partial, (λ e. refl), (same_form form r.form name r.name ws (part_words r.partial) r.words_are).2))
+
+      go : (form : Form) → Follows (codes "receive") ((form_words form ++ input_words name) ++ ws) → SpellLast (codes "partial") false ws
+      go (V1 m g) f = behind (V1 m g) f
+      go V2 f = behind V2 f
+
+  -- where it gets stuck, the line does
+  pub stuck_part : IsName name → (u v : Unread) (place : ℕ) → Reads (form_words form ++ input_words name) u v → IsStuck (SpellLast (codes "partial") false) v place → IsStuck (Follows (codes "receive")) u place
+  stuck_part some u v place reads stuck =
+      stuck_behind (SpellLast (codes "partial") false) (Follows (codes "receive")) (form_words form ++ input_words name) u v place reads (part_follows some) behind_part stuck
+
+pub spells : (form : Form) (partial : Bool) (name : Word) (words : List Word) → IsName name → words ≡ (form_words form ++ input_words name) ++ part_words partial → Spells (codes "receive" ∷ words) (receive form partial name)
+spells form partial name words some e = record { command = some; spelled = subst (λ (ws : List Word). SpellCommand (receive form partial name) (codes "receive" ∷ ws)) (sym (e ∙ append_assoc (form_words form) (input_words name) (part_words partial))) (spell_receive form partial name) }

@@ -69,11 +69,11 @@ changing = (
 )
 
 -- a receiving, of a stream of each version
-receiving : SpellCommand (receive (V1 M2 G16) (codes "x.cells")) (codes "receive" ∷ codes "2" ∷ codes "1/16" ∷ codes "IN=x.cells" ∷ [])
+receiving : SpellCommand (receive (V1 M2 G16) false (codes "x.cells")) (codes "receive" ∷ codes "2" ∷ codes "1/16" ∷ codes "IN=x.cells" ∷ [])
 unfolding SpellCommand
 receiving = refl
 
-receiving_heads : SpellCommand (receive V2 (codes "x.cells")) (codes "receive" ∷ codes "IN=x.cells" ∷ [])
+receiving_heads : SpellCommand (receive V2 false (codes "x.cells")) (codes "receive" ∷ codes "IN=x.cells" ∷ [])
 unfolding SpellCommand
 receiving_heads = refl
 

@@ -15,7 +15,7 @@ use Rattle.isdbt_cli.specs.Parsing.{Unread, BeginsWith, IsStuck, Reads, Follows,
 use Rattle.isdbt_cli.proofs.Stuck.{stuck_behind, reads_none, AnyCommand, fault_at}
 use Rattle.isdbt_cli.proofs.Transmissions.{some_setting, some_accepted, same_head, same_tail}
 use Rattle.isdbt_cli.proofs.PlanSpelling.{begins_at}
-use Rattle.isdbt_cli.proofs.PlanLines.{NamesOf, names_words, input_words, code_words, spell_remux, remux_spelled, code_spelled, receive_spelled, some_named, some_inputs, line_follows, follows_line, line_behind}
+use Rattle.isdbt_cli.proofs.PlanLines.{NamesOf, names_words, input_words, code_words, receive_words, spell_remux, remux_spelled, code_spelled, receive_spelled, some_named, some_inputs, line_follows, follows_line, line_behind}
 use Rattle.isdbt_cli.proofs.PlanLines.{inputs_behind, inputs_next, sent_follows}
 
 -- ---- behind a plan
@@ -123,18 +123,18 @@ behind_plan read u v place r s = stuck_behind (Line read) (Follows (codes "remux
 abbrev pub name_of : Command → Word
 name_of (remux p a b c) = codes "remux"
 name_of (code p how name) = codes "code"
-name_of (receive form name) = codes "receive"
+name_of (receive form partial name) = codes "receive"
 
 pub first_word : (c : Command) (words : List Word) → SpellCommand c words → (rest : List Word) × (words ≡ name_of c ∷ rest)
 first_word (remux p a b c) words s = (let k = remux_spelled p a b c words s in (k.0 ++ names_words a b c, k.2))
 first_word (code p how name) words s = (let k = code_spelled p how name words s in (k.0 ++ code_words how name, k.2))
-first_word (receive form name) words s = (form_words form ++ input_words name, receive_spelled form name words s)
+first_word (receive form partial name) words s = (form_words form ++ receive_words partial name, receive_spelled form partial name words s)
 
 -- another word than a command's is none's first
 no_name : (w : Word) (c : Command) → w ≢ codes "remux" → w ≢ codes "code" → w ≢ codes "receive" → w ≢ name_of c
 no_name w (remux p a b c) not_remux not_code not_receive = not_remux
 no_name w (code p how name) not_remux not_code not_receive = not_code
-no_name w (receive form name) not_remux not_code not_receive = not_receive
+no_name w (receive form partial name) not_remux not_code not_receive = not_receive
 
 pub spells : (p : Schedule) (read : List Word) (a : Word) (b c : Option Word) (words : List Word) → SpellsPlan p read → IsName a
     → IsNameIfGiven b × (is_some b ≡ is_some p.first.setting.b) → IsNameIfGiven c × (is_some c ≡ is_some p.first.setting.c)

@@ -117,23 +117,33 @@ IsNameIfGiven (Some name) = IsName name
 
 -- ---- the version of the stream of cells
 
+-- a word that stands last where it is told
+abbrev pub told_last : Word → Bool → List Word
+told_last word true = word ∷ []
+told_last word false = []
+
 -- version 2 is told behind the input, and version 1 is not
 abbrev pub version_words : Bool → List Word
-version_words true = codes "v2" ∷ []
-version_words false = []
+version_words = told_last (codes "v2")
 
 -- a stream that is read is of version 1 where its mode and guard interval are told, and of version 2 where they are not
 abbrev pub form_words : Form → List Word
 form_words (V1 mode guard) = told_words true mode guard
 form_words V2 = []
 
+-- ---- partial reception
+
+-- it is told behind the input
+abbrev pub part_words : Bool → List Word
+part_words = told_last (codes "partial")
+
 -- ---- commands
 
--- remux: a plan, and the names of the inputs of layers A, B and C; code: a plan, how the stream is written, and the name of its input; receive: the version of the stream, in version 1 with a mode and a guard interval, and the name of its input
+-- remux: a plan, and the names of the inputs of layers A, B and C; code: a plan, how the stream is written, and the name of its input; receive: the version of the stream, in version 1 with a mode and a guard interval, whether reception is partial, and the name of its input
 pub data Command : Type 0 where
   remux : Schedule → Word → Option Word → Option Word → Command
   code : Schedule → Writing → Word → Command
-  receive : Form → Word → Command
+  receive : Form → Bool → Word → Command
 
 -- these words spell a command
 unfoldable pub SpellCommand : Command → List Word → Type 0
@@ -141,7 +151,7 @@ SpellCommand (remux p a b c) words =
     (plan : List Word) × SpellPlan p plan × (words ≡ codes "remux" ∷ (plan ++ (input_word (codes "A") a ∷ (other_input_words (codes "B") b ++ other_input_words (codes "C") c))))
 SpellCommand (code p how name) words =
     (plan : List Word) × SpellPlan p plan × (words ≡ codes "code" ∷ (plan ++ (input_word (codes "IN") name ∷ version_words how.v2)))
-SpellCommand (receive form name) words = words ≡ codes "receive" ∷ (form_words form ++ input_word (codes "IN") name ∷ [])
+SpellCommand (receive form partial name) words = words ≡ codes "receive" ∷ (form_words form ++ (input_word (codes "IN") name ∷ part_words partial))
 
 -- the plan is accepted, and exactly its layers' inputs are named
 pub record IsRemux (p : Schedule) (a : Word) (b c : Option Word) : Type 0 where
@@ -161,7 +171,7 @@ pub record IsCode (p : Schedule) (how : Writing) (name : Word) : Type 0 where
 abbrev pub IsCommand : Command → Type 0
 IsCommand (remux p a b c) = IsRemux p a b c
 IsCommand (code p how name) = IsCode p how name
-IsCommand (receive form name) = IsName name
+IsCommand (receive form partial name) = IsName name
 
 -- the words are some of an accepted command
 pub record Spells (words : List Word) (c : Command) : Type 0 where

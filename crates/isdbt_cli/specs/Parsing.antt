@@ -12,7 +12,7 @@ use Rattle.isdbt_base.specs.Epochs.{last_start, last_sent}
 use Rattle.isdbt_base.specs.Switching.{with_switch}
 use Rattle.isdbt_cli.specs.declared.command.Command.{Command as Parsed}
 use Rattle.isdbt_cli.specs.declared.command.Command.TheVariants.{Remux, Code, Receive}
-use Rattle.isdbt_cli.specs.CommandLines.{Word, mode_word, guard_word, setting_word, frame_word, told_words, IsIn, SpellPlan, other_layer_text, version_words, Command, remux, code, receive, Spells}
+use Rattle.isdbt_cli.specs.CommandLines.{Word, mode_word, guard_word, setting_word, frame_word, told_words, IsIn, SpellPlan, other_layer_text, told_last, Command, remux, code, receive, Spells}
 
 -- ---- the parts of a text
 
@@ -75,7 +75,7 @@ Follows first words = (c : Command) × Spells (first ∷ words) c
 abbrev pub command_of : Parsed → Command
 command_of (Remux plan a b c) = remux plan a.now (option_map (λ x. x.now) b) (option_map (λ x. x.now) c)
 command_of (Code plan how name) = code plan how name.now
-command_of (Receive form name) = receive form name.now
+command_of (Receive form partial name) = receive form partial name.now
 
 -- a named input, if it is given: the seat's text and the name
 abbrev pub named : Word → Option Word → List Word
@@ -180,8 +180,8 @@ abbrev pub planned : Bool → Word
 planned false = codes "remux"
 planned true = codes "code"
 
--- ---- the version of the stream
+-- ---- a word that stands last
 
--- these words, the last of a coding, tell the version of the stream: version 2 must be told where it is wanted
-abbrev pub SpellVersion : Bool → List Word → Type 0
-SpellVersion wanted words = (v2 : Bool) × (v2 ≡ false → wanted ≡ false) × (words ≡ version_words v2)
+-- these words, the last of a line, tell a word or don't: it must be told where it is wanted
+abbrev pub SpellLast : Word → Bool → List Word → Type 0
+SpellLast word wanted words = (told : Bool) × (told ≡ false → wanted ≡ false) × (words ≡ told_last word told)

@@ -43,7 +43,7 @@ lone_name name In = Some name
 abbrev pub names_of : Command → Names
 names_of (remux p a b c) = layer_names a b c
 names_of (code p how name) = lone_name name
-names_of (receive form name) = lone_name name
+names_of (receive form partial name) = lone_name name
 
 -- the named inputs of the layers hold these bytes, and a layer without a name has none
 pub record Hold (holds : Word → Option (List ℕ)) (name : Names) (input : Layer → List ℕ) : Type 0 where
@@ -99,8 +99,8 @@ AnswerOf (remux p a b c) holds before after left outcome = (input : Layer → Li
     → EndsSo run_fault_of (λ seat. after ≡ before) (RemuxAnswer p input frame_limit before after left) outcome
 AnswerOf (code p how name) holds before after left outcome = (input : List ℕ) → holds name ≡ Some input
     → EndsSo run_fault_of_code (λ seat. after ≡ before) (LoneAnswer code_kind (code_command how p input frame_limit) before after (left In)) outcome
-AnswerOf (receive form name) holds before after left outcome = (stream : List ℕ) → holds name ≡ Some stream
-    → EndsSo run_fault_of_receive (λ seat. after ≡ before) (LoneAnswer receive_kind (receive_command (view_of form stream) false stream frame_limit) before after (left In)) outcome
+AnswerOf (receive form partial name) holds before after left outcome = (stream : List ℕ) → holds name ≡ Some stream
+    → EndsSo run_fault_of_receive (λ seat. after ≡ before) (LoneAnswer receive_kind (receive_command (view_of form stream) partial stream frame_limit) before after (left In)) outcome
 
 -- ---- causes
 
@@ -115,7 +115,7 @@ pub record OpenFailed (name : Names) (shelf shelf' : Cause → ℕ) (sink sink' 
 abbrev pub CauseOf : Command → (Cause → ℕ) → (Cause → ℕ) → ℕ → ℕ → Outcome → Type 0
 CauseOf (remux p a b c) shelf shelf' sink sink' outcome = EndsSo run_fault_of (OpenFailed (layer_names a b c) shelf shelf' sink sink') (RemuxCause p shelf shelf' sink sink') outcome
 CauseOf (code p how name) shelf shelf' sink sink' outcome = EndsSo run_fault_of_code (OpenFailed (lone_name name) shelf shelf' sink sink') (LoneCause code_kind shelf shelf' sink sink') outcome
-CauseOf (receive form name) shelf shelf' sink sink' outcome = EndsSo run_fault_of_receive (OpenFailed (lone_name name) shelf shelf' sink sink') (LoneCause receive_kind shelf shelf' sink sink') outcome
+CauseOf (receive form partial name) shelf shelf' sink sink' outcome = EndsSo run_fault_of_receive (OpenFailed (lone_name name) shelf shelf' sink sink') (LoneCause receive_kind shelf shelf' sink sink') outcome
 
 -- the words have a fault, and nothing else happened
 pub record IsUsage (words : List Word) (shelf shelf' : Cause → ℕ) (sink sink' : ℕ) (outcome : Outcome) : Type 0 where
@@ -141,7 +141,7 @@ pub record NothingRose (name : Names) (shelf shelf' : Cause → ℕ) (sink sink'
 abbrev pub RefusesNone : Command → (Word → Option (List ℕ)) → Type 0
 RefusesNone (remux p a b c) holds = (input : Layer → List ℕ) × Hold holds (layer_names a b c) input × ((f : ℕ) → refusal p input frame_limit f ≡ None)
 RefusesNone (code p how name) holds = (input : List ℕ) × (holds name ≡ Some input) × ((f : ℕ) → code_refusal p input frame_limit f ≡ None)
-RefusesNone (receive form name) holds = (stream : List ℕ) × (holds name ≡ Some stream) × ((f : ℕ) → receive_refusal (view_of form stream) false frame_limit f ≡ None)
+RefusesNone (receive form partial name) holds = (stream : List ℕ) × (holds name ≡ Some stream) × ((f : ℕ) → receive_refusal (view_of form stream) partial frame_limit f ≡ None)
 
 -- the answers where no frame is refused and nothing of the outside failed
 abbrev pub IsDoneOrNoMemory : Outcome → Type 0

@@ -18,9 +18,10 @@ pub enum Command<'a> {
         how: Writing,
         name: &'a str,
     },
-    /// Receives the cells of the input of this name, a stream of this version.
+    /// Receives the cells of the input of this name, a stream of this version, in full or for partial reception.
     Receive {
         form: Form,
+        partial: bool,
         name: &'a str,
     },
 }

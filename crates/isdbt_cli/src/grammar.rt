@@ -6,8 +6,8 @@
 ghost use Rattle.std.specs.Prelude.{◌≡◌, ℕ, ◌<◌, ◌++◌, ◌∷◌, [], length, Bool, false, None, is_some, IfSome, IfOk, IfErr, MatchResult, codes, map, string_bytes, option_map};
 ghost use Rattle.isdbt_base.specs.Parameters.{Parameters, IsAccepted};
 ghost use Rattle.isdbt_base.specs.declared.kinds.Mode.{Mode as SomeMode};
-ghost use Rattle.isdbt_cli.specs.CommandLines.{mode_word, guard_word, setting_word, frame_word, transmission_words, version_words, IsName, IsNameIfGiven, Spells, IsFaultAt};
-ghost use Rattle.isdbt_cli.specs.Parsing.{Reads, BeginsWith, IsAny, IsStuck, Follows, command_of, named, StartsWith, ReadsTold, IsStuckAtGuard, told_by, IsLater, ReadsMode, IsChange, change_words, ReadsSwitch, IsStuckInSwitch, ReadsPlan, HasNoFrame, planned, SpellVersion};
+ghost use Rattle.isdbt_cli.specs.CommandLines.{mode_word, guard_word, setting_word, frame_word, transmission_words, told_last, IsName, IsNameIfGiven, Spells, IsFaultAt};
+ghost use Rattle.isdbt_cli.specs.Parsing.{Reads, BeginsWith, IsAny, IsStuck, Follows, command_of, named, StartsWith, ReadsTold, IsStuckAtGuard, told_by, IsLater, ReadsMode, IsChange, change_words, ReadsSwitch, IsStuckInSwitch, ReadsPlan, HasNoFrame, planned, SpellLast};
 
 use crate::command::Command;
 use crate::cursor::Cursor;
@@ -53,43 +53,42 @@ fn code<'a>(words: &mut Cursor<'a>) -> Result<Command<'a>, u64>
 {
     let plan = plan(words)?;
     let name = name(words, "IN=")?;
-    let how = version(words, plan.changes_mode())?;
+    let v2 = last_word(words, "v2", plan.changes_mode())?;
+    let how = Writing { v2 };
     Ok(Command::Code { plan, how, name })
 }
 
-/// The version of the stream, which ends the words: `v2`, or nothing for version 1, unless version 2 is wanted.
-fn version(words: &mut Cursor<'_>, wanted: bool) -> Result<Writing, u64>
-    ensures wanted { IfOk result (λ how. how.v2 ≡ false → wanted ≡ false) }
-    ensures ok { IfOk result (λ how. words.old.words ≡ version_words how.v2) }
-    ensures err { IfErr result (λ place. IsStuck (SpellVersion wanted) words.old place) }
+/// Whether a word stands last, which may be left out unless it is wanted.
+fn last_word(words: &mut Cursor<'_>, last: &str, wanted: bool) -> Result<bool, u64>
+    ensures wanted { IfOk result (λ told. told ≡ false → wanted ≡ false) }
+    ensures ok { IfOk result (λ told. words.old.words ≡ told_last last.now told) }
+    ensures err { IfErr result (λ place. IsStuck (SpellLast last.now wanted) words.old place) }
 {
     let place = words.place();
     let Some(word) = words.peek() else {
-        return if wanted {
-            Err(place)
-        } else {
-            Ok(Writing { v2: false })
-        };
+        return if wanted { Err(place) } else { Ok(false) };
     };
-    match word {
-        "v2" => {
-            words.skip();
-            words.end()?;
-            Ok(Writing { v2: true })
-        }
-        _ => Err(place),
+    if word != last {
+        return Err(place);
     }
+    words.skip();
+    words.end()?;
+    Ok(true)
 }
 
-/// The words behind `receive`: the version of the stream and the name of its input.
+/// The words behind `receive`: the version of the stream, the name of its input, and whether reception is partial.
 fn receive<'a>(words: &mut Cursor<'a>) -> Result<Command<'a>, u64>
     ensures { MatchResult result (λ c. Spells (codes "receive" ∷ words.old.words) (command_of c))
         (λ place. IsStuck (Follows (codes "receive")) words.old place) }
 {
     let form = form(words)?;
     let name = name(words, "IN=")?;
-    words.end()?;
-    Ok(Command::Receive { form, name })
+    let partial = last_word(words, "partial", false)?;
+    Ok(Command::Receive {
+        form,
+        partial,
+        name,
+    })
 }
 
 /// The version of a stream that is read: version 1 where a mode and a guard interval are told, and else version 2.

@@ -1,6 +1,6 @@
 //! The top call.
 
-ghost use Rattle.std.specs.Prelude.{◌≡◌, ℕ, ◌≤◌, List, ◌↔◌, false, Some, option_map};
+ghost use Rattle.std.specs.Prelude.{◌≡◌, ℕ, ◌≤◌, Bool, List, ◌↔◌, true, false, Some, option_map};
 ghost use Rattle.std.specs.declared.option.Option.{Option as Maybe};
 ghost use Rattle.isdbt_base.specs.declared.kinds.Layer.{Layer as Which};
 ghost use Rattle.isdbt_base.specs.Plans.{Schedule, IsPlan};
@@ -18,9 +18,9 @@ ghost use Rattle.remux_core.specs.Answers.{RemuxAnswer, RemuxCause};
 ghost use Rattle.coder_core.specs.SentCells.{sent_frame};
 ghost use Rattle.coder_core.specs.Answers.{code_kind, code_command};
 ghost use Rattle.seg_receiver.specs.CellStream.{View as SomeView, view_of, writing_of, AreInRow, NoBadHead};
-ghost use Rattle.seg_receiver.specs.Delivered.{CanCarry, ArePackets, IsNear, delivered};
+ghost use Rattle.seg_receiver.specs.Delivered.{CanCarry, ArePackets};
 ghost use Rattle.seg_receiver.specs.ReceiveAnswers.{receive_kind, receive_command};
-ghost use Rattle.isdbt_cli.specs.Chain.{written_stream, IsDoneWith, IsReceivedAs, WroteNear, IsChain};
+ghost use Rattle.isdbt_cli.specs.Chain.{written_stream, IsDoneWith, CanCarryFor, HasFlags, IsNearFor, delivered_for, IsReceivedAs, WroteNear, IsChain};
 ghost use Rattle.isdbt_cli.specs.CommandLines.{Word, Command as SomeCommand, remux, code, receive, IsRemux, IsCode, IsCommand, Spells, IsFaultAt};
 ghost use Rattle.isdbt_cli.specs.Faults.{run_fault_of, run_fault_of_code, run_fault_of_receive};
 ghost use Rattle.isdbt_cli.specs.Lines.{line_of, IsTold};
@@ -37,7 +37,7 @@ use coder_core::code;
 use edge_io::{Failed, Seat, Shelf, Sink};
 use isdbt_base::{Form, Plan, Reading, Writing};
 use remux_core::remux;
-use seg_receiver::receive;
+use seg_receiver::{ReceiveFault, receive, receive_partial};
 use std::alloc::Global;
 
 /// The most frames of a command.
@@ -102,17 +102,39 @@ fn run_code<H: Shelf, K: Sink>(
     }
 }
 
-/// Receives the cells of the input of this name, a stream of this version.
+/// Receives a stream of cells in full or for partial reception.
+fn receive_as<H: Shelf, K: Sink>(
+    alloc: Global,
+    how: Reading,
+    partial: bool,
+    shelf: &mut H,
+    out: &mut K,
+) -> Result<u32, ReceiveFault>
+    requires { H.is_open shelf.old seats.In ≡ true }
+    ensures answer { (stream : List ℕ) → H.left shelf.old seats.In ≡ Some stream
+        → LoneAnswer receive_kind (receive_command (view_of how.form stream) partial stream frame_limit) (K.written out.old) (K.written out.new) (H.left shelf.new seats.In) result }
+    ensures still_open { H.is_open shelf.new ≡ H.is_open shelf.old }
+    ensures cause { LoneCause receive_kind (H.faults shelf.old) (H.faults shelf.new) (K.faults out.old) (K.faults out.new) result }
+    ensures room { K.room out.new ≡ K.room out.old }
+{
+    if partial {
+        return receive_partial(alloc, how, MOST_FRAMES, shelf, out);
+    }
+    receive(alloc, how, MOST_FRAMES, shelf, out)
+}
+
+/// Receives the cells of the input of this name, a stream of this version, in full or for partial reception.
 fn run_receive<H: Shelf, K: Sink>(
     alloc: Global,
     form: Form,
+    partial: bool,
     name: &str,
     shelf: &mut H,
     out: &mut K,
 ) -> Outcome
     requires { (seat : Place) → H.is_open shelf.old seat ≡ false }
     ensures answer { (stream : List ℕ) → H.holds shelf.old name.now ≡ Some stream
-        → EndsSo run_fault_of_receive (λ seat. K.written out.new ≡ K.written out.old) (LoneAnswer receive_kind (receive_command (view_of form stream) false stream frame_limit) (K.written out.old) (K.written out.new) (H.left shelf.new seats.In)) result }
+        → EndsSo run_fault_of_receive (λ seat. K.written out.new ≡ K.written out.old) (LoneAnswer receive_kind (receive_command (view_of form stream) partial stream frame_limit) (K.written out.old) (K.written out.new) (H.left shelf.new seats.In)) result }
     ensures cause { EndsSo run_fault_of_receive (OpenFailed (lone_name name.now) (H.faults shelf.old) (H.faults shelf.new) (K.faults out.old) (K.faults out.new))
         (LoneCause receive_kind (H.faults shelf.old) (H.faults shelf.new) (K.faults out.old) (K.faults out.new)) result }
     ensures seats { SeatsAfter (lone_name name.now) (H.is_open shelf.new) result }
@@ -123,7 +145,7 @@ fn run_receive<H: Shelf, K: Sink>(
         Ok(()) => {}
         Err(Failed) => return Outcome::Fault(RunFault::OpenFault(Seat::In)),
     }
-    match receive(alloc, Reading { form }, MOST_FRAMES, shelf, out) {
+    match receive_as(alloc, Reading { form }, partial, shelf, out) {
         Ok(frames) => Outcome::Done(frames),
         Err(fault) => Outcome::Fault(RunFault::from(fault)),
     }
@@ -147,7 +169,11 @@ fn run_command<H: Shelf, K: Sink>(
     match command {
         Command::Remux { plan, a, b, c } => run_remux(alloc, &plan, a, b, c, shelf, out),
         Command::Code { plan, how, name } => run_code(alloc, &plan, how, name, shelf, out),
-        Command::Receive { form, name } => run_receive(alloc, form, name, shelf, out),
+        Command::Receive {
+            form,
+            partial,
+            name,
+        } => run_receive(alloc, form, partial, name, shelf, out),
     }
 }
 
@@ -205,26 +231,29 @@ pub fn run<H: Shelf, K: Sink, E: Sink>(
         → result ≡ Outcome.Done m → WroteNear how p input m (K.written out.old) (K.written out.new) }
 
     // Cells that are near those of a plan, in either version of the stream, and no fault of the outside: the packets of the
-    // plan's frames, each put off by its layer's delay, and no others, or no memory.
-    ensures receive_near { (p : Schedule) (frames : FramePackets) (count : ℕ) (form : SomeForm) (name : Word) (stream : List ℕ) → Spells words.now (receive form name)
-        → H.holds shelf.old name ≡ Some stream → IsPlan p → ArePackets p frames count → IsNear (view_of form stream) p frames count → count ≤ frame_limit
+    // plan's frames, each put off by its layer's delay, and no others, or no memory. With partial reception layer A's alone,
+    // where the cells are near for layer A, the setting of each frame has the flag, and no head is refused.
+    ensures receive_near { (p : Schedule) (frames : FramePackets) (count : ℕ) (form : SomeForm) (partial : Bool) (name : Word) (stream : List ℕ) → Spells words.now (receive form partial name)
+        → H.holds shelf.old name ≡ Some stream → IsPlan p → ArePackets p frames count → IsNearFor partial (view_of form stream) p frames count → (partial ≡ true → NoBadHead (view_of form stream) count) → count ≤ frame_limit
         → NothingRose (lone_name name) (H.faults shelf.old) (H.faults shelf.new) (K.faults out.old) (K.faults out.new)
-        → IsDoneWith count (delivered p frames count) (K.written out.old) (K.written out.new) result }
+        → IsDoneWith count (delivered_for partial p frames count) (K.written out.old) (K.written out.new) result }
 
     // Three facts of the commands, whatever the words are. A view that is near a plan, whose frames stand in a row and of
-    // which no head is refused, is received as what is delivered of it: so after a failed read or write too what was written
-    // is a front part of the delivered stream. By laws of `seg_receiver` a stream of either version that is near a plan is
-    // such a view.
-    ensures near_received { (v : SomeView) (p : Schedule) (frames : FramePackets) (count : ℕ) → IsPlan p → AreInRow v count → NoBadHead v count → ArePackets p frames count → IsNear v p frames count
-        → count ≤ frame_limit → IsReceivedAs v p frames count }
+    // which no head is refused, is received as what is delivered of it, in full and in part: so after a failed read or write
+    // too what was written is a front part of the delivered stream. By laws of `seg_receiver` a stream of either version that
+    // is near a plan is such a view.
+    ensures near_received { (v : SomeView) (p : Schedule) (frames : FramePackets) (count : ℕ) (partial : Bool) → IsPlan p → AreInRow v count → NoBadHead v count → ArePackets p frames count → IsNearFor partial v p frames count
+        → count ≤ frame_limit → IsReceivedAs partial v p frames count }
 
-    // The cells of a plan, as a coding writes them in a version of the stream that can carry it, are near it.
-    ensures near_cells { (p : Schedule) (frames : FramePackets) (count : ℕ) (form : SomeForm) → IsPlan p → CanCarry form p count → ArePackets p frames count
-        → IsNear (view_of form (product (sent_frame (writing_of form) p frames) count)) p frames count }
+    // The cells of a plan, as a coding writes them in a version of the stream that can carry it, are near it, for partial
+    // reception too where each setting has the flag.
+    ensures near_cells { (p : Schedule) (frames : FramePackets) (count : ℕ) (form : SomeForm) (partial : Bool) → IsPlan p → CanCarryFor partial form p count → ArePackets p frames count → HasFlags partial p count
+        → IsNearFor partial (view_of form (product (sent_frame (writing_of form) p frames) count)) p frames count }
 
     // And the commands go one behind another, for inputs of whole packets with their sync bytes: a coding refuses nothing of
     // what a remultiplexing writes of them, the cells that it writes are near the plan and the multiplexed packets, so that a
-    // receiving delivers these, and each input packet that a frame places is delivered later by its layer's delay.
+    // receiving delivers these, with partial reception layer A's where each setting has the flag, and each input packet that a
+    // frame places is delivered later by its layer's delay.
     ensures chain { (p : Schedule) (form : SomeForm) (input : Which → List ℕ) (count : ℕ) → IsPlan p → CanCarry form p count
         → ((x : Which) → IsGood (input x)) → ((x : Which) → IsBytes (input x)) → count ≤ frame_limit → IsChain p input form count }
 
