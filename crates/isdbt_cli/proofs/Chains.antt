@@ -19,10 +19,10 @@ use Rattle.coder_core.specs.SentCells.{sent_frame}
 use Rattle.coder_core.specs.Answers.{code_command}
 use Rattle.coder_core.proofs.BehindEnd.{free}
 use Rattle.seg_receiver.specs.CellStream.{View, view_of, writing_of, AreInRow, NoBadHead}
-use Rattle.seg_receiver.specs.Received.{received_frame}
-use Rattle.seg_receiver.specs.Delivered.{SendsIn, CanCarry, ArePackets, IsNear, delivered_packets}
+use Rattle.seg_receiver.specs.Received.{received_frame, partial_frame}
+use Rattle.seg_receiver.specs.Delivered.{SendsIn, CanCarry, ArePackets, IsNear, delivered_packets, delivered_partial_frame}
 use Rattle.seg_receiver.proofs.AcceptedStream.{accepted-written}
-use Rattle.seg_receiver.proofs.CleanDelivered.{plan_cells-near}
+use Rattle.seg_receiver.proofs.CleanDelivered.{plan_cells-near, plan_cells-near_partial}
 use Rattle.seg_receiver.proofs.CodedInput.{coded-near, coded-none}
 use Rattle.seg_receiver.proofs.FoundFrames.{product-same, coded-broadcast, sizes_of}
 use Rattle.seg_receiver.proofs.InputDelivered.{input_delivered}
@@ -30,28 +30,46 @@ use Rattle.seg_receiver.proofs.MultiplexedBytes.{multiplexed-packets}
 use Rattle.seg_receiver.proofs.NearDelivered.{received_frame-near}
 use Rattle.seg_receiver.proofs.NearHeads.{near-heads}
 use Rattle.seg_receiver.proofs.NearOutcome.{near_outcome}
-use Rattle.seg_receiver.proofs.PlanViews.{in_row}
+use Rattle.seg_receiver.proofs.PartialDelivered.{partial_frame-near}
+use Rattle.seg_receiver.proofs.PlanViews.{in_row, carries_partial}
 use Rattle.seg_receiver.proofs.ViewLaws.{laid}
-use Rattle.isdbt_cli.specs.Chain.{written_stream, form_of, IsReceivedAs, WroteNear, IsChain}
+use Rattle.isdbt_cli.specs.Chain.{written_stream, form_of, CanCarryFor, HasFlags, IsNearFor, IsReceivedAs, WroteNear, IsChain}
 use Rattle.isdbt_cli.specs.FrameLimit.{frame_limit}
 
 -- a view that is near a plan, and of which no head is refused, is received as what is delivered of it, and so is each front part of it
-pub near_received : (v : View) (p : Schedule) (frames : FramePackets) (count : ℕ) → IsPlan p → AreInRow v count → NoBadHead v count → ArePackets p frames count → IsNear v p frames count → count ≤ frame_limit → IsReceivedAs v p frames count
-near_received v p frames count plan row fine packets near few = record {
+pub near_received : (v : View) (p : Schedule) (frames : FramePackets) (count : ℕ) (partial : Bool) → IsPlan p → AreInRow v count → NoBadHead v count → ArePackets p frames count → IsNearFor partial v p frames count → count ≤ frame_limit → IsReceivedAs partial v p frames count
+near_received v p frames count false plan row fine packets near few = record {
   outcome = near_outcome v p false count frame_limit plan row fine near.whole near.words (λ f h e. absurd (cc)) few;
   product = λ m le. product-same (received_frame v) (broadcast p (delivered_packets p frames)) m (λ f less. received_frame-near v p frames count plan packets near f (omega (arith, le, less)));
 }
+near_received v p frames count true plan row fine packets near few = record {
+  outcome = near_outcome v p true count frame_limit plan row fine near.whole near.words (λ f h e. near.partial f h) few;
+  product = λ m le. product-same (partial_frame v) (delivered_partial_frame p frames) m (λ f less. partial_frame-near v p frames count plan packets near f (omega (arith, le, less)));
+}
+
+near_whole : (v : View) (p : Schedule) (frames : FramePackets) (count : ℕ) (partial : Bool) → IsNearFor partial v p frames count → v.size ≡ v.starts count
+near_whole v p frames count false near = near.whole
+near_whole v p frames count true near = near.whole
+
+heads_fine : (form : Form) (stream : List ℕ) (p : Schedule) (frames : FramePackets) (count : ℕ) (partial : Bool) → IsPlan p → IsNearFor partial (view_of form stream) p frames count → (partial ≡ true → NoBadHead (view_of form stream) count) → NoBadHead (view_of form stream) count
+heads_fine form stream p frames count false plan near fine = near-heads form stream p frames count plan near
+heads_fine form stream p frames count true plan near fine = fine refl
 
 -- and so is a stream of a version that is near it
-pub near_stream : (form : Form) (stream : List ℕ) (p : Schedule) (frames : FramePackets) (count : ℕ) → IsPlan p → ArePackets p frames count → IsNear (view_of form stream) p frames count
-    → count ≤ frame_limit → IsReceivedAs (view_of form stream) p frames count
-near_stream form stream p frames count plan packets near few =
-    near_received (view_of form stream) p frames count plan (in_row form stream count (sym (laid form stream).size ∙ near.whole)) (near-heads form stream p frames count plan near) packets near few
+pub near_stream : (form : Form) (stream : List ℕ) (p : Schedule) (frames : FramePackets) (count : ℕ) (partial : Bool) → IsPlan p → ArePackets p frames count → IsNearFor partial (view_of form stream) p frames count
+    → (partial ≡ true → NoBadHead (view_of form stream) count) → count ≤ frame_limit → IsReceivedAs partial (view_of form stream) p frames count
+near_stream form stream p frames count partial plan packets near fine few =
+    near_received (view_of form stream) p frames count partial plan (in_row form stream count (sym (laid form stream).size ∙ near_whole (view_of form stream) p frames count partial near)) (heads_fine form stream p frames count partial plan near fine) packets near few
 
 -- the cells of a plan are near it in each version of the stream that can carry it
-pub near_cells : (p : Schedule) (frames : FramePackets) (count : ℕ) (form : Form) → IsPlan p → CanCarry form p count → ArePackets p frames count
-    → IsNear (view_of form (product (sent_frame (writing_of form) p frames) count)) p frames count
-near_cells p frames count form plan carries packets = plan_cells-near form p frames count plan carries packets
+pub near_cells : (p : Schedule) (frames : FramePackets) (count : ℕ) (form : Form) (partial : Bool) → IsPlan p → CanCarryFor partial form p count → ArePackets p frames count → HasFlags partial p count
+    → IsNearFor partial (view_of form (product (sent_frame (writing_of form) p frames) count)) p frames count
+near_cells p frames count form false plan carries packets flags = plan_cells-near form p frames count plan carries packets
+near_cells p frames count form true plan carries packets flags = plan_cells-near_partial form p frames count plan carries packets (λ f h. flags f h refl)
+
+carries_for : (form : Form) (p : Schedule) (count : ℕ) (partial : Bool) → CanCarry form p count → CanCarryFor partial form p count
+carries_for form p count false carries = carries
+carries_for form p count true carries = carries_partial p (λ f x j. []) count form carries
 
 -- what is coded of a multiplex is what is sent of it
 pub coded_multiplex : (how : Writing) (p : Schedule) (input : Layer → List ℕ) (count : ℕ) → IsPlan p → ((x : Layer) → IsGood (input x)) → ((x : Layer) → IsBytes (input x))
@@ -65,12 +83,17 @@ chain p form input count plan carries good bytes few =
     let sent = multiplexed-packets p input count good bytes in
     let same = coded_multiplex (writing_of form) p input count plan good bytes in
     let all = accepted-written p input count frame_limit plan good bytes few in
+    let near = plan_cells-near form p (multiplexed p input) count plan carries sent in
     record {
       coded = all;
       free = free p (written_stream p input count) frame_limit count all;
       cells = same;
-      near = subst (λ cells. IsNear (view_of form cells) p (multiplexed p input) count) (sym same) (near_cells p (multiplexed p input) count form plan carries sent);
+      near = subst (λ cells. IsNear (view_of form cells) p (multiplexed p input) count) (sym same) near;
       packets = sent;
+      received = λ partial flags. subst (λ cells. IsReceivedAs partial (view_of form cells) p (multiplexed p input) count) (sym same)
+          (near_stream form (product (sent_frame (writing_of form) p (multiplexed p input)) count) p (multiplexed p input) count partial plan sent
+          (near_cells p (multiplexed p input) count form partial plan (carries_for form p count partial carries) sent flags)
+          (λ e. near-heads form (product (sent_frame (writing_of form) p (multiplexed p input)) count) p (multiplexed p input) count plan near) few);
       places = input_delivered p input;
     }
 
@@ -118,7 +141,7 @@ found_near form p input m None plan carries bytes passed found =
     let empty = coded-none how p input m frame_limit passed found in
     let frames : FramePackets = frames_from p input None in
     let packets : ArePackets p frames m = λ f j x l less used within. absurd (omega (arith, less, empty.0)) in
-    let near = near_cells p frames m form plan carries packets in
+    let near = plan_cells-near form p frames m plan carries packets in
     let same : product (sent_frame how p frames) m ≡ product (coded_frame how p input) m = product-same (sent_frame how p frames) (coded_frame how p input) m
     (λ f less. absurd (omega (arith, less, empty.0))) in
     (packets, subst (λ cells. IsNear (view_of form cells) p frames m) same near)

@@ -1,9 +1,23 @@
 -- A word that may stand last in a line.
 use Rattle.std.proofs.Common.{◌≡◌, ◌≢◌, ℕ, Bool, true, false, List, [], ◌∷◌, take, refl, sym, ap, ◌∙◌}
+use Rattle.std.specs.Prelude.{not}
+use Rattle.std.specs.Str.{bytes_eq}
+use Rattle.std.proofs.lemmas.Slice.Eq.{bytes_eq-Decides}
 use Rattle.isdbt_cli.specs.CommandLines.{Word, told_last}
 use Rattle.isdbt_cli.specs.Parsing.{Unread, Reads, IsStuck, StartsWith, SpellLast}
 use Rattle.isdbt_cli.proofs.Stuck.{stuck_here, stuck_end, reads_none, not_none}
 use Rattle.isdbt_cli.proofs.Transmissions.{same_head, same_tail}
+
+-- two words that are told to differ, and to be the same
+pub differ : (r : Bool) (v w : Word) → r ≡ not (bytes_eq v w) → r ≡ true → v ≢ w
+differ r v w is told same = absurd (let e = (bytes_eq-Decides v w).1 same in let bad : true ≡ false = sym told ∙ is ∙ ap not e in cc)
+
+pub agree : (r : Bool) (v w : Word) → r ≡ not (bytes_eq v w) → r ≡ false → v ≡ w
+agree r v w is told = (bytes_eq-Decides v w).0 (not-false (bytes_eq v w) (sym is ∙ told))
+  where
+    not-false : (b : Bool) → not b ≡ false → b ≡ true
+    not-false true e = refl
+    not-false false e = absurd (cc)
 
 module _ (last : Word) where
   pub told_last-injective : (a b : Bool) → told_last last a ≡ told_last last b → a ≡ b

@@ -22,14 +22,13 @@ use Rattle.coder_core.specs.declared.fault.CodeFault.{CodeFault}
 use Rattle.coder_core.specs.CodeRefusals.{code_refusal, is_there, coded_frame}
 use Rattle.coder_core.specs.Answers.{code_kind, code_command}
 use Rattle.seg_receiver.specs.CellStream.{view_of}
-use Rattle.seg_receiver.specs.Received.{received}
 use Rattle.seg_receiver.specs.ReceiveRefusals.{receive_is_there, receive_refusal}
 use Rattle.seg_receiver.specs.ReceiveAnswers.{receive_kind, receive_command}
 use Rattle.isdbt_cli.specs.declared.fault.Outcome.{Outcome}
 use Rattle.isdbt_cli.specs.declared.fault.Outcome.TheVariants.{Done, Fault}
 use Rattle.isdbt_cli.specs.declared.fault.RunFault.TheVariants.{Usage}
 use Rattle.isdbt_cli.specs.CommandLines.{Word, Command, remux, code, receive, IsRemux, IsCommand, Spells, IsFaultAt}
-use Rattle.isdbt_cli.specs.Chain.{IsDoneWith}
+use Rattle.isdbt_cli.specs.Chain.{IsDoneWith, received_for}
 use Rattle.isdbt_cli.specs.Faults.{run_fault_of, run_fault_of_code, run_fault_of_receive}
 use Rattle.isdbt_cli.specs.FrameLimit.{frame_limit}
 use Rattle.isdbt_cli.specs.Run.{layer_names, lone_name, names_of, SeatsAfter, outcome_of, EndsSo, AnswerOf, CauseOf, NothingRose, RefusesNone, IsDoneOrNoMemory, IsFree}
@@ -43,7 +42,7 @@ use Rattle.isdbt_cli.proofs.Outcomes.{remux_keeps, code_keeps, receive_keeps, no
 not_usage : (c : Command) (shelf shelf' : Cause → ℕ) (sink sink' : ℕ) (outcome : Outcome) (word : ℕ) → CauseOf c shelf shelf' sink sink' outcome → outcome ≡ Fault (Usage word) → ⊥
 not_usage (remux p a b c) shelf shelf' sink sink' outcome word cause e = no_usage run_fault_of remux_kind _ _ outcome word remux_keeps cause e
 not_usage (code p how name) shelf shelf' sink sink' outcome word cause e = no_usage run_fault_of_code code_kind _ _ outcome word code_keeps cause e
-not_usage (receive form name) shelf shelf' sink sink' outcome word cause e = no_usage run_fault_of_receive receive_kind _ _ outcome word receive_keeps cause e
+not_usage (receive form partial name) shelf shelf' sink sink' outcome word cause e = no_usage run_fault_of_receive receive_kind _ _ outcome word receive_keeps cause e
 
 pub ok_usage : (words : List Word) (c : Command) (shelf shelf' : Cause → ℕ) (sink sink' : ℕ) (outcome : Outcome) (word : ℕ) → Spells words c → CauseOf c shelf shelf' sink sink' outcome → (outcome ≡ Fault (Usage word)) ↔ IsFaultAt words word
 ok_usage words c shelf shelf' sink sink' outcome word s cause = (λ e. absurd (not_usage c shelf shelf' sink sink' outcome word cause e), λ f. absurd (no_place words c word s f))
@@ -80,10 +79,10 @@ module _ (holds : Word → Option (List ℕ)) (before after : Option (List ℕ))
       quiet run_fault_of_code code_kind code_keeps (code_command how p free.0 frame_limit).frames (lone_account (code_command how p free.0 frame_limit) (left seats.In)) (λ seat. seat ≡ seats.In) (lone_name name) before after shelf shelf' sink sink'
       (lone_named name) none IsDoneOrNoMemory tt (λ f r. absurd (let at = r.ended.outcome.at in let fine = free.2 r.frame in cc))
       (LoneAnswer code_kind (code_command how p free.0 frame_limit) before after (left seats.In)) outcome (λ m done. tt) (λ f fault. fault) (says free.0 free.1) cause
-  complete (receive form name) is says cause none free =
-      quiet run_fault_of_receive receive_kind receive_keeps (receive_command (view_of form free.0) false free.0 frame_limit).frames (lone_account (receive_command (view_of form free.0) false free.0 frame_limit) (left seats.In)) (λ seat. seat ≡ seats.In) (lone_name name) before after shelf shelf' sink sink'
+  complete (receive form partial name) is says cause none free =
+      quiet run_fault_of_receive receive_kind receive_keeps (receive_command (view_of form free.0) partial free.0 frame_limit).frames (lone_account (receive_command (view_of form free.0) partial free.0 frame_limit) (left seats.In)) (λ seat. seat ≡ seats.In) (lone_name name) before after shelf shelf' sink sink'
       (lone_named name) none IsDoneOrNoMemory tt (λ f r. absurd (let at = r.ended.outcome.at in let fine = free.2 r.frame in cc))
-      (LoneAnswer receive_kind (receive_command (view_of form free.0) false free.0 frame_limit) before after (left seats.In)) outcome (λ m done. tt) (λ f fault. fault) (says free.0 free.1) cause
+      (LoneAnswer receive_kind (receive_command (view_of form free.0) partial free.0 frame_limit) before after (left seats.In)) outcome (λ m done. tt) (λ f fault. fault) (says free.0 free.1) cause
 
   -- good packets leave too many frames too
   too_long_alone : (fault : RemuxFault) → fault ≡ remux_faults.TooLong → IsFree (Fault (run_fault_of fault))
@@ -108,14 +107,14 @@ module _ (holds : Word → Option (List ℕ)) (before after : Option (List ℕ))
       (λ m done. (let e = same_count (code_refusal p input frame_limit) (is_there p input) m count None None done.ended.outcome all in (e, done.ended.written ∙ ap (λ k. append_known before (product (coded_frame how p input) k)) e ∙ ap (append_known before) same)))
       (λ f fault. fault) says cause
 
-  pub given : (form : Form) (name : Word) (stream : List ℕ) (count : ℕ) (packets : List ℕ) → EndsSo run_fault_of_receive (λ seat. after ≡ before) (LoneAnswer receive_kind (receive_command (view_of form stream) false stream frame_limit) before after (left seats.In)) outcome → CauseOf (receive form name) shelf shelf' sink sink' outcome
-      → NothingRose (lone_name name) shelf shelf' sink sink' → IsOutcome (receive_refusal (view_of form stream) false frame_limit) (receive_is_there (view_of form stream)) count None → received (view_of form stream) count ≡ packets → IsDoneWith count packets before after outcome
-  given form name stream count packets says cause none all same =
+  pub given : (form : Form) (partial : Bool) (name : Word) (stream : List ℕ) (count : ℕ) (packets : List ℕ) → EndsSo run_fault_of_receive (λ seat. after ≡ before) (LoneAnswer receive_kind (receive_command (view_of form stream) partial stream frame_limit) before after (left seats.In)) outcome → CauseOf (receive form partial name) shelf shelf' sink sink' outcome
+      → NothingRose (lone_name name) shelf shelf' sink sink' → IsOutcome (receive_refusal (view_of form stream) partial frame_limit) (receive_is_there (view_of form stream)) count None → received_for partial (view_of form stream) count ≡ packets → IsDoneWith count packets before after outcome
+  given form partial name stream count packets says cause none all same =
       let v = view_of form stream in
-      quiet run_fault_of_receive receive_kind receive_keeps (receive_command v false stream frame_limit).frames (lone_account (receive_command v false stream frame_limit) (left seats.In)) (λ seat. seat ≡ seats.In) (lone_name name) before after shelf shelf' sink sink'
-      (lone_named name) none (IsDoneWith count packets before after) tt (λ f r. absurd (no_refusal (receive_refusal v false frame_limit) (receive_is_there v) count r.frame f all r.ended.outcome))
-      (LoneAnswer receive_kind (receive_command v false stream frame_limit) before after (left seats.In)) outcome
-      (λ m done. (let e = same_count (receive_refusal v false frame_limit) (receive_is_there v) m count None None done.ended.outcome all in (e, done.ended.written ∙ ap (λ k. append_known before (received v k)) e ∙ ap (append_known before) same)))
+      quiet run_fault_of_receive receive_kind receive_keeps (receive_command v partial stream frame_limit).frames (lone_account (receive_command v partial stream frame_limit) (left seats.In)) (λ seat. seat ≡ seats.In) (lone_name name) before after shelf shelf' sink sink'
+      (lone_named name) none (IsDoneWith count packets before after) tt (λ f r. absurd (no_refusal (receive_refusal v partial frame_limit) (receive_is_there v) count r.frame f all r.ended.outcome))
+      (LoneAnswer receive_kind (receive_command v partial stream frame_limit) before after (left seats.In)) outcome
+      (λ m done. (let e = same_count (receive_refusal v partial frame_limit) (receive_is_there v) m count None None done.ended.outcome all in (e, done.ended.written ∙ ap (λ k. append_known before (received_for partial v k)) e ∙ ap (append_known before) same)))
       (λ f fault. fault) says cause
 
   -- a coding that is done came to the end of its frames

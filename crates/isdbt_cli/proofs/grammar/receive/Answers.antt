@@ -1,12 +1,11 @@
 use Rattle.std.proofs.Common.{◌++◌, ap, ◌∙◌}
 use Rattle.std.specs.Prelude.{codes}
 use Rattle.std.proofs.lemmas.Result.{err_from_is_err_and}
-use Rattle.std.proofs.lemmas.List.{append-nil}
 use Rattle.isdbt_cli.specs.CommandLines.{form_words, IsName}
 use Rattle.isdbt_cli.specs.Parsing.{Follows}
-use Rattle.isdbt_cli.proofs.Stuck.{stuck_word, stuck_end, reads_both}
+use Rattle.isdbt_cli.proofs.Stuck.{stuck_word, reads_both}
 use Rattle.isdbt_cli.proofs.PlanLines.{input_words}
-use Rattle.isdbt_cli.proofs.ReceiveSpelling.{reads_form, follows, stuck_at_guard, follows_some, name_follows, end_follows, spells}
+use Rattle.isdbt_cli.proofs.ReceiveSpelling.{reads_form, stuck_at_guard, follows_some, name_follows, stuck_part, spells}
 use Rattle.isdbt_cli.proofs.grammar.receive.Goals as goal
 
 pub returns-in_err-form : goal.returns-in_err-form
@@ -22,19 +21,17 @@ returns-in_err-name c =
     rw (p.1, p.2) (stuck_word IsName (λ name. codes "IN=" ++ name) (Follows (codes "receive")) (form_words form) c.args.words.now c.form.new.words c.in_err-name.field-0.0
     (reads_form form c.args.words.now c.form.new.words read) c.in_err-name.ensures.err (follows_some form) (name_follows form c.args.words.now c.form.new.words read))
 
-pub returns-in_err-end : goal.returns-in_err-end
-returns-in_err-end c =
-    let p = err_from_is_err_and c.from_residual-in_err-end.result c.from_residual-in_err-end.ensures.1 in
+pub returns-in_err-partial : goal.returns-in_err-partial
+returns-in_err-partial c =
+    let p = err_from_is_err_and c.from_residual-in_err-partial.result c.from_residual-in_err-partial.ensures.1 in
     let form = c.in_ok-form.form in
     let n = c.in_ok-name.name.now in
     let reads = reads_both (form_words form) (input_words n) c.args.words.now c.form.new.words c.name.new.words (reads_form form c.args.words.now c.form.new.words c.in_ok-form.ensures.ok) c.in_ok-name.ensures.ok in
-    rw (p.1, p.2) (stuck_end (Follows (codes "receive")) (form_words form ++ input_words n) c.args.words.now c.name.new.words c.in_err-end.field-0.0 reads c.in_err-end.ensures.err.0 c.in_err-end.ensures.err.1
-    (follows form n c.in_ok-name.ensures.name) (end_follows form n))
+    rw (p.1, p.2) (stuck_part form n c.in_ok-name.ensures.name c.args.words.now c.name.new.words c.in_err-partial.field-0.0 reads c.in_err-partial.ensures.err)
 
 pub returns : goal.returns
 returns c =
     let form = c.in_ok-form.form in
     let n = c.in_ok-name.name.now in
     let reads = reads_both (form_words form) (input_words n) c.args.words.now c.form.new.words c.name.new.words (reads_form form c.args.words.now c.form.new.words c.in_ok-form.ensures.ok) c.in_ok-name.ensures.ok in
-    spells form n c.args.words.now.words c.in_ok-name.ensures.name
-    (reads.split ∙ ap (λ ws. (form_words form ++ input_words n) ++ ws) c.in_ok-end.ensures.ok ∙ append-nil (form_words form ++ input_words n))
+    spells form c.in_ok-partial.partial n c.args.words.now.words c.in_ok-name.ensures.name (reads.split ∙ ap (λ ws. (form_words form ++ input_words n) ++ ws) c.in_ok-partial.ensures.ok)

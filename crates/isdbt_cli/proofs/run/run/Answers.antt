@@ -4,8 +4,8 @@ use Rattle.edge_io.specs.declared.shelf.Seat.TheVariants as seats
 use Rattle.coder_core.specs.SentCells.{sent_frame}
 use Rattle.remux_core.specs.Multiplex.{multiplexed}
 use Rattle.seg_receiver.proofs.AcceptedStream.{accepted-written}
-use Rattle.seg_receiver.specs.Delivered.{delivered}
-use Rattle.isdbt_cli.specs.Chain.{written_stream}
+
+use Rattle.isdbt_cli.specs.Chain.{written_stream, delivered_for}
 use Rattle.isdbt_cli.specs.CommandLines.{remux, code, receive}
 use Rattle.isdbt_cli.specs.FrameLimit.{frame_limit}
 use Rattle.isdbt_cli.specs.Parsing.{command_of}
@@ -55,11 +55,11 @@ returns-in-Ok-clause-code_near g c = λ p how name input m spelled hold bytes do
     (same_answer (command_of c.in-Ok.command) (code p how name) _ _ _ _ _ same c.run_command-outcome.ensures.answer input hold) done)
 
 pub returns-in-Ok-clause-receive_near : goal.returns-in-Ok-clause-receive_near
-returns-in-Ok-clause-receive_near g c = λ p frames count form name stream spelled hold plan packets near few none.
-    let same = one_command c.args.words.now (command_of c.in-Ok.command) (receive form name) c.in-Ok.ensures spelled in
-    let all = near_stream form stream p frames count plan packets near few in
+returns-in-Ok-clause-receive_near g c = λ p frames count form partial name stream spelled hold plan packets near fine few none.
+    let same = one_command c.args.words.now (command_of c.in-Ok.command) (receive form partial name) c.in-Ok.ensures spelled in
+    let all = near_stream form stream p frames count partial plan packets near fine few in
     let whole : count ≤ count = omega arith in
-    given (g.H.Shelf.holds c.args.shelf.now) _ _ (g.H.Shelf.left c.run_command-outcome.new.shelf) _ _ _ _ c.run_command-outcome.result form name stream count (delivered p frames count) (same_answer (command_of c.in-Ok.command) (receive form name) _ _ _ _ _ same c.run_command-outcome.ensures.answer stream hold) (same_cause (command_of c.in-Ok.command) (receive form name) _ _ _ _ _ same c.run_command-outcome.ensures.cause) none all.outcome (all.product count whole)
+    given (g.H.Shelf.holds c.args.shelf.now) _ _ (g.H.Shelf.left c.run_command-outcome.new.shelf) _ _ _ _ c.run_command-outcome.result form partial name stream count (delivered_for partial p frames count) (same_answer (command_of c.in-Ok.command) (receive form partial name) _ _ _ _ _ same c.run_command-outcome.ensures.answer stream hold) (same_cause (command_of c.in-Ok.command) (receive form partial name) _ _ _ _ _ same c.run_command-outcome.ensures.cause) none all.outcome (all.product count whole)
 
 pub returns-in-Ok-clause-near_received : goal.returns-in-Ok-clause-near_received
 returns-in-Ok-clause-near_received g c = near_received
@@ -95,7 +95,7 @@ pub returns-in-Err-clause-code_near : goal.returns-in-Err-clause-code_near
 returns-in-Err-clause-code_near g c = λ p how name input m spelled hold bytes done. absurd (no_place _ (code p how name) _ spelled c.in-Err.ensures)
 
 pub returns-in-Err-clause-receive_near : goal.returns-in-Err-clause-receive_near
-returns-in-Err-clause-receive_near g c = λ p frames count form name stream spelled hold plan packets near few none. absurd (no_place _ (receive form name) _ spelled c.in-Err.ensures)
+returns-in-Err-clause-receive_near g c = λ p frames count form partial name stream spelled hold plan packets near fine few none. absurd (no_place _ (receive form partial name) _ spelled c.in-Err.ensures)
 
 pub returns-in-Err-clause-near_received : goal.returns-in-Err-clause-near_received
 returns-in-Err-clause-near_received g c = near_received
