@@ -1,9 +1,10 @@
 -- The words of the command code: what may follow the words that were read.
-use Rattle.std.proofs.Common.{◌≡◌, ◌≢◌, ℕ, Bool, true, false, List, [], ◌∷◌, ◌++◌, take, refl, sym, ap, ◌∙◌, subst}
+use Rattle.std.proofs.Common.{◌≡◌, ℕ, Bool, true, false, List, [], ◌∷◌, ◌++◌, take, refl, sym, ap, subst}
 use Rattle.std.specs.Prelude.{codes}
 use Rattle.isdbt_base.specs.Plans.{Schedule, KeepsMode}
 use Rattle.isdbt_base.specs.declared.stream.Writing.{Writing}
-use Rattle.isdbt_cli.specs.CommandLines.{Word, version_words, IsName, code, SpellCommand, Spells}
+use Rattle.isdbt_cli.specs.CommandLines.{version_words, IsName, code, SpellCommand, Spells}
+use Rattle.setting_words.specs.SettingWords.{Word}
 use Rattle.isdbt_cli.specs.Parsing.{Unread, Reads, BeginsWith, IsStuck, Follows, SpellsPlan, HasNoFrame, SpellLast}
 use Rattle.isdbt_cli.proofs.Stuck.{stuck_behind}
 use Rattle.isdbt_cli.proofs.Transmissions.{same_tail}

@@ -3,7 +3,8 @@ use Rattle.std.proofs.Common.{◌≡◌, ◌≢◌, ℕ, Bool, true, false, List
 use Rattle.std.specs.Prelude.{not}
 use Rattle.std.specs.Str.{bytes_eq}
 use Rattle.std.proofs.lemmas.Slice.Eq.{bytes_eq-Decides}
-use Rattle.isdbt_cli.specs.CommandLines.{Word, told_last}
+use Rattle.isdbt_cli.specs.CommandLines.{told_last}
+use Rattle.setting_words.specs.SettingWords.{Word}
 use Rattle.isdbt_cli.specs.Parsing.{Unread, Reads, IsStuck, StartsWith, SpellLast}
 use Rattle.isdbt_cli.proofs.Stuck.{stuck_here, stuck_end, reads_none, not_none}
 use Rattle.isdbt_cli.proofs.Transmissions.{same_head, same_tail}

@@ -1,8 +1,5 @@
 pub mod Numbers
-pub mod Texts
 pub mod LastWords
-pub mod LayerTexts
-pub mod SettingWords
 pub mod Stuck
 pub mod Transmissions
 pub mod PlanSpelling

@@ -12,7 +12,8 @@ use Rattle.remux_core.specs.Refusals.{seat_of}
 use Rattle.remux_core.specs.Frames.{packets_of}
 use Rattle.remux_core.specs.Answers.{IsUsed, Tells}
 use Rattle.remux_core.proofs.Places.{used-some, unused-none}
-use Rattle.isdbt_cli.specs.CommandLines.{Word, IsRemux}
+use Rattle.isdbt_cli.specs.CommandLines.{IsRemux}
+use Rattle.setting_words.specs.SettingWords.{Word}
 use Rattle.isdbt_cli.specs.Run.{layer_names, lone_name, Hold, AreSeated, AreOpened, turn_of, OpenStopped}
 
 some_of : {X : Type 0} (o : Option X) → is_some o ≡ true → (x : X) × (o ≡ Some x)

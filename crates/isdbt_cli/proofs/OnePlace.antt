@@ -4,7 +4,8 @@ use Rattle.std.specs.Prelude.{codes, is_some}
 use Rattle.std.proofs.lemmas.List.{take-take, take_all, append-nil, append_cancel_left}
 use Rattle.std.proofs.lemmas.Bool.{cases_lt}
 use Rattle.isdbt_base.specs.Plans.{Schedule}
-use Rattle.isdbt_cli.specs.CommandLines.{Word, part_words, Command, remux, code, receive, Spells, CanGoOn, IsFaultAt}
+use Rattle.isdbt_cli.specs.CommandLines.{part_words, Command, remux, code, receive, Spells, CanGoOn, IsFaultAt}
+use Rattle.setting_words.specs.SettingWords.{Word}
 use Rattle.isdbt_cli.proofs.Transmissions.{same_head, same_tail}
 use Rattle.isdbt_cli.proofs.PlanLines.{names_words, code_words, remux_spelled, code_spelled, receive_spelled, remux_or_code, remux_or_receive, code_or_receive, remux_line, code_line, same_line}
 use Rattle.isdbt_cli.proofs.LastWords.{told_last-injective}

@@ -17,7 +17,7 @@ use Rattle.isdbt_cli.specs.declared.fault.RunFault.{RunFault}
 use Rattle.isdbt_cli.specs.declared.fault.RunFault.TheVariants.{Usage, BadSync, Truncated, HeadMisplaced, NoHead, WrongCount, BadTmcc, Unannounced, NotPartial, OpenFault, ReadFault, WriteFault, TooLong, NoMemory, BadHead}
 use Rattle.isdbt_cli.specs.declared.fault.Outcome.{Outcome}
 use Rattle.isdbt_cli.specs.declared.fault.Outcome.TheVariants.{Done, Fault}
-use Rattle.isdbt_cli.specs.CommandLines.{Word}
+use Rattle.setting_words.specs.SettingWords.{Word}
 use Rattle.isdbt_cli.specs.Faults.{run_fault_of, run_fault_of_code, run_fault_of_receive}
 use Rattle.isdbt_cli.specs.Run.{Names, AreSeated, SeatsAfter, outcome_of, EndsSo, OpenFailed, NothingRose}
 

@@ -11,7 +11,8 @@ use Rattle.isdbt_base.specs.declared.stream.Form.{Form}
 use Rattle.isdbt_base.specs.Epochs.{last_sent, last_start}
 use Rattle.isdbt_base.specs.Switching.{with_switch}
 use Rattle.isdbt_base.proofs.PlanEpochs.{plan-append}
-use Rattle.isdbt_cli.specs.CommandLines.{Word, transmission_words, frame_word, switch_words, SpellSwitches, SpellPlan, other_input_words, version_words, form_words, part_words, IsName, IsNameIfGiven, remux}
+use Rattle.isdbt_cli.specs.CommandLines.{transmission_words, frame_word, switch_words, SpellSwitches, SpellPlan, other_input_words, version_words, form_words, part_words, IsName, IsNameIfGiven, remux}
+use Rattle.setting_words.specs.SettingWords.{Word}
 use Rattle.isdbt_cli.specs.CommandLines.{code, receive, SpellCommand, IsRemux, IsCode}
 use Rattle.isdbt_cli.specs.Parsing.{Unread, Reads, IsStuck, Follows, named, StartsWith, Change, change_words, IsChange, IsLater, AddsSwitch, EndsPlan, ReadsSwitch, IsStuckInSwitch}
 use Rattle.isdbt_cli.specs.Parsing.{SpellsPlan, ReadsPlan, HasNoFrame, planned}

@@ -10,7 +10,8 @@ use Rattle.isdbt_base.specs.Parameters.{Parameters, IsAccepted}
 use Rattle.isdbt_base.specs.Plans.{Transmission, Switch, Schedule, IsPlan, RisesFrom}
 use Rattle.isdbt_base.specs.Epochs.{last_start_from, last_sent_from, last_start}
 use Rattle.isdbt_base.specs.Switching.{with_switch}
-use Rattle.isdbt_cli.specs.CommandLines.{Word, mode_word, guard_word, setting_word, frame_word, told_words, switch_words, IsIn, SpellSwitches}
+use Rattle.isdbt_cli.specs.CommandLines.{frame_word, told_words, switch_words, IsIn, SpellSwitches}
+use Rattle.setting_words.specs.SettingWords.{Word, mode_word, guard_word, setting_word}
 use Rattle.isdbt_cli.proofs.Transmissions.{same_head, same_tail, same_transmission}
 
 -- ---- first letters

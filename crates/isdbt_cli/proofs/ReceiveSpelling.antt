@@ -7,7 +7,8 @@ use Rattle.isdbt_base.specs.declared.kinds.Mode.TheVariants.{M1, M2, M3}
 use Rattle.isdbt_base.specs.declared.kinds.Guard.TheVariants.{G4}
 use Rattle.isdbt_base.specs.declared.stream.Form.{Form}
 use Rattle.isdbt_base.specs.declared.stream.Form.TheVariants.{V1, V2}
-use Rattle.isdbt_cli.specs.CommandLines.{Word, mode_word, guard_word, form_words, part_words, IsName, remux, code, receive, SpellCommand, Spells}
+use Rattle.isdbt_cli.specs.CommandLines.{form_words, part_words, IsName, remux, code, receive, SpellCommand, Spells}
+use Rattle.setting_words.specs.SettingWords.{Word, mode_word, guard_word}
 use Rattle.isdbt_cli.specs.Parsing.{Unread, Reads, BeginsWith, IsStuck, Follows, ReadsTold, IsStuckAtGuard, told_by, SpellLast}
 use Rattle.isdbt_cli.proofs.Stuck.{stuck_here, stuck_behind, reads_none}
 use Rattle.isdbt_cli.proofs.Transmissions.{some_name, same_head, same_tail, mode_word-injective, guard_word-injective}

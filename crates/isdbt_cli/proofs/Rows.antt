@@ -12,7 +12,8 @@ use Rattle.isdbt_base.specs.declared.kinds.Rate.{Rate}
 use Rattle.isdbt_base.specs.declared.kinds.DepthCode.{DepthCode}
 use Rattle.isdbt_base.specs.Parameters.{Parameters}
 use Rattle.isdbt_base.specs.Plans.{Transmission, Switch}
-use Rattle.isdbt_cli.specs.CommandLines.{setting_word, remux, code, receive, SpellSwitches, SpellCommand}
+use Rattle.isdbt_cli.specs.CommandLines.{remux, code, receive, SpellSwitches, SpellCommand}
+use Rattle.setting_words.specs.SettingWords.{setting_word}
 
 -- one layer
 one_layer : SpellCommand (remux (record { first = record { mode = M1; guard = G4; setting = record { partial = false; a = record { segments = 13; modulation = Qpsk; rate = R12; depth = D0 }; b = None; c = None } }; switches = [] }) (codes "a.ts") None None)

@@ -1,5 +1,5 @@
 -- What the answers to each command mean.
-use Rattle.std.proofs.Common.{◌≡◌, ℕ, List, Bool, false, None, Some, Ok, Err, sym, ap, ◌∙◌, subst, inl, inr}
+use Rattle.std.proofs.Common.{◌≡◌, ℕ, List, Bool, None, Some, Ok, Err, sym, ap, ◌∙◌, subst, inl, inr}
 use Rattle.std.specs.Prelude.{◌↔◌}
 use Rattle.std.specs.declared.option.Option.{Option}
 use Rattle.std.specs.declared.result.Result.{Result}
@@ -27,7 +27,8 @@ use Rattle.seg_receiver.specs.ReceiveAnswers.{receive_kind, receive_command}
 use Rattle.isdbt_cli.specs.declared.fault.Outcome.{Outcome}
 use Rattle.isdbt_cli.specs.declared.fault.Outcome.TheVariants.{Done, Fault}
 use Rattle.isdbt_cli.specs.declared.fault.RunFault.TheVariants.{Usage}
-use Rattle.isdbt_cli.specs.CommandLines.{Word, Command, remux, code, receive, IsRemux, IsCommand, Spells, IsFaultAt}
+use Rattle.isdbt_cli.specs.CommandLines.{Command, remux, code, receive, IsRemux, IsCommand, Spells, IsFaultAt}
+use Rattle.setting_words.specs.SettingWords.{Word}
 use Rattle.isdbt_cli.specs.Chain.{IsDoneWith, received_for}
 use Rattle.isdbt_cli.specs.Faults.{run_fault_of, run_fault_of_code, run_fault_of_receive}
 use Rattle.isdbt_cli.specs.FrameLimit.{frame_limit}

@@ -10,12 +10,13 @@ use Rattle.isdbt_base.specs.declared.kinds.Mode.TheVariants.{M1}
 use Rattle.isdbt_base.specs.declared.kinds.Guard.TheVariants.{G4}
 use Rattle.isdbt_base.specs.Plans.{Switch, Schedule, IsPlan, RisesFrom, at_frame, at_from}
 use Rattle.isdbt_base.proofs.PlanEpochs.{at_from-before}
-use Rattle.isdbt_cli.specs.CommandLines.{Word, form_words, IsName, IsNameIfGiven, Command, remux, code, receive, SpellCommand, Spells, IsFaultAt}
+use Rattle.isdbt_cli.specs.CommandLines.{form_words, IsName, IsNameIfGiven, Command, remux, code, receive, SpellCommand, Spells, IsFaultAt}
+use Rattle.setting_words.specs.SettingWords.{Word}
 use Rattle.isdbt_cli.specs.Parsing.{Unread, BeginsWith, IsStuck, Reads, Follows, SpellsPlan, HasNoFrame, named, command_of}
 use Rattle.isdbt_cli.proofs.Stuck.{stuck_behind, reads_none, AnyCommand, fault_at}
 use Rattle.isdbt_cli.proofs.Transmissions.{some_setting, some_accepted, same_head, same_tail}
 use Rattle.isdbt_cli.proofs.PlanSpelling.{begins_at}
-use Rattle.isdbt_cli.proofs.PlanLines.{NamesOf, names_words, input_words, code_words, receive_words, spell_remux, remux_spelled, code_spelled, receive_spelled, some_named, some_inputs, line_follows, follows_line, line_behind}
+use Rattle.isdbt_cli.proofs.PlanLines.{NamesOf, names_words, code_words, receive_words, spell_remux, remux_spelled, code_spelled, receive_spelled, some_named, some_inputs, line_follows, follows_line, line_behind}
 use Rattle.isdbt_cli.proofs.PlanLines.{inputs_behind, inputs_next, sent_follows}
 
 -- ---- behind a plan

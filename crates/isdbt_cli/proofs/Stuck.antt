@@ -4,7 +4,8 @@ use Rattle.std.specs.Prelude.{◌⊎◌, ok_or}
 use Rattle.std.specs.declared.option.Option.{Option}
 use Rattle.std.specs.declared.result.Result.{Result}
 use Rattle.std.proofs.lemmas.List.{append-nil}
-use Rattle.isdbt_cli.specs.CommandLines.{Word, Command, Spells, CanGoOn, IsFaultAt}
+use Rattle.isdbt_cli.specs.CommandLines.{Command, Spells, CanGoOn, IsFaultAt}
+use Rattle.setting_words.specs.SettingWords.{Word}
 use Rattle.isdbt_cli.specs.Parsing.{Unread, Reads, BeginsWith, IsStuck, StartsWith}
 
 -- ---- a rule of one word

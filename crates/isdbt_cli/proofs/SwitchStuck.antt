@@ -14,9 +14,10 @@ use Rattle.isdbt_base.specs.Epochs.{last_start_from, last_start, last_sent}
 use Rattle.isdbt_base.specs.Switching.{alike, other_layer, layers_fault, switch_fault, with_switch}
 use Rattle.isdbt_base.proofs.PlanEpochs.{same_layers}
 use Rattle.isdbt_base.proofs.EpochLaws.{last_epoch}
-use Rattle.isdbt_cli.specs.CommandLines.{Word, mode_word, guard_word, setting_word, frame_word, told_words, IsIn}
+use Rattle.isdbt_cli.specs.CommandLines.{frame_word, told_words, IsIn}
+use Rattle.setting_words.specs.SettingWords.{Word, mode_word, guard_word, setting_word}
 use Rattle.isdbt_cli.specs.Parsing.{Unread, Reads, BeginsWith, IsStuck, StartsWith, IsStuckAtGuard, ReadsMode, Change, change_words, IsChange, IsLater, AddsSwitch, IsStuckInSwitch}
-use Rattle.isdbt_cli.proofs.SettingWords.{setting_word-injective}
+use Rattle.setting_words.proofs.SettingWords.{setting_word-injective}
 use Rattle.isdbt_cli.proofs.Stuck.{stuck_here, reads_both}
 use Rattle.isdbt_cli.proofs.Transmissions.{same_head, same_tail, mode_word-injective}
 use Rattle.isdbt_cli.proofs.PlanSpelling.{no_setting}

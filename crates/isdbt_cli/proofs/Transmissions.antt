@@ -11,9 +11,10 @@ use Rattle.isdbt_base.specs.declared.kinds.Rate.TheVariants.{R12}
 use Rattle.isdbt_base.specs.declared.kinds.DepthCode.TheVariants.{D0}
 use Rattle.isdbt_base.specs.Parameters.{Parameters, IsAccepted}
 use Rattle.isdbt_base.specs.Plans.{Transmission}
-use Rattle.isdbt_cli.specs.CommandLines.{Word, mode_word, guard_word, setting_word, transmission_words, IsName}
+use Rattle.isdbt_cli.specs.CommandLines.{transmission_words, IsName}
+use Rattle.setting_words.specs.SettingWords.{Word, mode_word, guard_word, setting_word}
 use Rattle.isdbt_cli.specs.Parsing.{BeginsWith, IsAny}
-use Rattle.isdbt_cli.proofs.SettingWords.{setting_word-injective}
+use Rattle.setting_words.proofs.SettingWords.{setting_word-injective}
 
 -- ---- a word is of one mode, of one guard interval
 

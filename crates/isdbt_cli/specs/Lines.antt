@@ -12,7 +12,7 @@ use Rattle.tmcc_word.specs.declared.fault.TmccFault.TheVariants.{Sync, SegmentTy
 use Rattle.isdbt_cli.specs.declared.fault.Outcome.{Outcome}
 use Rattle.isdbt_cli.specs.declared.fault.Outcome.TheVariants.{Done, Fault}
 use Rattle.isdbt_cli.specs.declared.fault.RunFault.TheVariants.{Usage, BadSync, Truncated, HeadMisplaced, NoHead, WrongCount, BadTmcc, Unannounced, NotPartial, OpenFault, ReadFault, WriteFault, TooLong, NoMemory, BadHead}
-use Rattle.isdbt_cli.specs.CommandLines.{Word}
+use Rattle.setting_words.specs.SettingWords.{Word}
 
 abbrev pub seat_text : Seat → Word
 seat_text seats.A = codes "A"

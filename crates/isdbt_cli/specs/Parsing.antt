@@ -1,44 +1,17 @@
--- How words are read: the parts of a text, and the words that are left.
-use Rattle.std.specs.Prelude.{◌≡◌, ◌≢◌, ℕ, ◌+◌, ◌<◌, ◌≤◌, Bool, true, false, EachIndex, slice_index, Option, Some, None, option_map, List, [], ◌∷◌, ◌++◌, length, take, codes}
-use Rattle.std.specs.Borrow.{Bor}
+-- How words are read: the words that are left.
+use Rattle.std.specs.Prelude.{◌≡◌, ℕ, ◌+◌, ◌<◌, ◌≤◌, Bool, true, false, Option, Some, None, option_map, List, [], ◌∷◌, ◌++◌, length, take, codes}
 use Rattle.isdbt_base.specs.declared.kinds.Mode.{Mode}
-use Rattle.isdbt_base.specs.LayerParameters.{LayerParameters}
 use Rattle.isdbt_base.specs.declared.kinds.Guard.{Guard}
 use Rattle.isdbt_base.specs.declared.stream.Form.{Form}
 use Rattle.isdbt_base.specs.declared.stream.Form.TheVariants.{V1, V2}
-use Rattle.isdbt_base.specs.Parameters.{Parameters, HasSegmentsIfUsed, HasNoGap, IsAccepted}
+use Rattle.isdbt_base.specs.Parameters.{Parameters, IsAccepted}
 use Rattle.isdbt_base.specs.Plans.{Transmission, Switch, Schedule, SameLayers, IsPlan}
 use Rattle.isdbt_base.specs.Epochs.{last_start, last_sent}
 use Rattle.isdbt_base.specs.Switching.{with_switch}
 use Rattle.isdbt_cli.specs.declared.command.Command.{Command as Parsed}
 use Rattle.isdbt_cli.specs.declared.command.Command.TheVariants.{Remux, Code, Receive}
-use Rattle.isdbt_cli.specs.CommandLines.{Word, mode_word, guard_word, setting_word, frame_word, told_words, IsIn, SpellPlan, other_layer_text, told_last, Command, remux, code, receive, Spells}
-
--- ---- the parts of a text
-
-abbrev pub comma : ℕ
-comma = 44
-
--- no byte of the text is this one
-abbrev pub Lacks : ℕ → Word → Type 0
-Lacks byte text = EachIndex text (λ i. slice_index text i ≢ byte)
-
--- a comma and what stands behind it, if there is one
-abbrev pub behind_comma : Option (Bor Word) → Word
-behind_comma None = []
-behind_comma (Some text) = codes "," ++ text.now
-
--- layers B and C as they stand behind layer A
-abbrev pub other_layers_text : Mode → Option LayerParameters → Option LayerParameters → Word
-other_layers_text mode b c = other_layer_text mode (codes "B") b ++ other_layer_text mode (codes "C") c
-
--- layers B and C may be so
-pub record AreOthers (b c : Option LayerParameters) : Type 0 where
-  pub b_segments : HasSegmentsIfUsed b
-  pub c_segments : HasSegmentsIfUsed c
-  pub no_gap : HasNoGap b c
-
--- ---- the words that are left
+use Rattle.isdbt_cli.specs.CommandLines.{frame_word, told_words, IsIn, SpellPlan, told_last, Command, remux, code, receive, Spells}
+use Rattle.setting_words.specs.SettingWords.{Word, mode_word, guard_word, setting_word}
 
 -- words still to be read, and the place of the first of them
 pub record Unread : Type 0 where

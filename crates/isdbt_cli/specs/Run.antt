@@ -20,7 +20,8 @@ use Rattle.isdbt_cli.specs.declared.fault.RunFault.{RunFault}
 use Rattle.isdbt_cli.specs.declared.fault.RunFault.TheVariants.{Usage, OpenFault, TooLong, NoMemory}
 use Rattle.isdbt_cli.specs.Faults.{run_fault_of, run_fault_of_code, run_fault_of_receive}
 use Rattle.isdbt_cli.specs.FrameLimit.{frame_limit}
-use Rattle.isdbt_cli.specs.CommandLines.{Word, Command, remux, code, receive, Spells, IsFaultAt}
+use Rattle.isdbt_cli.specs.CommandLines.{Command, remux, code, receive, Spells, IsFaultAt}
+use Rattle.setting_words.specs.SettingWords.{Word}
 
 -- ---- inputs
 

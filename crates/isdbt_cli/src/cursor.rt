@@ -1,7 +1,7 @@
 //! A cursor over words.
 
 ghost use Rattle.std.specs.Prelude.{◌≡◌, ◌≢◌, [], ◌∷◌, None, IfSome, map, string_bytes, IfOk, IfErr, OnOk};
-ghost use Rattle.isdbt_cli.specs.CommandLines.{Word};
+ghost use Rattle.setting_words.specs.SettingWords.{Word};
 ghost use Rattle.isdbt_cli.specs.Parsing.{Reads, StartsWith};
 
 use std::marker::Model;

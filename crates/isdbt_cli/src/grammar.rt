@@ -6,14 +6,15 @@
 ghost use Rattle.std.specs.Prelude.{◌≡◌, ℕ, ◌<◌, ◌++◌, ◌∷◌, [], length, Bool, false, None, is_some, IfSome, IfOk, IfErr, MatchResult, codes, map, string_bytes, option_map};
 ghost use Rattle.isdbt_base.specs.Parameters.{Parameters, IsAccepted};
 ghost use Rattle.isdbt_base.specs.declared.kinds.Mode.{Mode as SomeMode};
-ghost use Rattle.isdbt_cli.specs.CommandLines.{mode_word, guard_word, setting_word, frame_word, transmission_words, told_last, IsName, IsNameIfGiven, Spells, IsFaultAt};
+ghost use Rattle.isdbt_cli.specs.CommandLines.{frame_word, transmission_words, told_last, IsName, IsNameIfGiven, Spells, IsFaultAt};
+ghost use Rattle.setting_words.specs.SettingWords.{mode_word, guard_word, setting_word};
 ghost use Rattle.isdbt_cli.specs.Parsing.{Reads, BeginsWith, IsAny, IsStuck, Follows, command_of, named, StartsWith, ReadsTold, IsStuckAtGuard, told_by, IsLater, ReadsMode, IsChange, change_words, ReadsSwitch, IsStuckInSwitch, ReadsPlan, HasNoFrame, planned, SpellLast};
 
 use crate::command::Command;
 use crate::cursor::Cursor;
-use crate::fields::{LAST_FRAME, frame_of, guard_of, mode_of};
-use crate::setting_word::setting_of;
+use crate::fields::{LAST_FRAME, frame_of};
 use isdbt_base::{At, Form, Guard, Layer, Mode, Plan, Setting, Writing};
+use setting_words::{guard_of, mode_of, setting_of};
 
 /// The most switches of a plan.
 const MOST_SWITCHES: u32 = 7;

@@ -33,7 +33,6 @@ mod refused_words_tests;
 #[cfg(test)]
 mod remux_tests;
 mod run;
-mod setting_word;
 #[cfg(test)]
 mod switch_tests;
 #[cfg(test)]

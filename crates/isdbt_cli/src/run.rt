@@ -21,7 +21,8 @@ ghost use Rattle.seg_receiver.specs.CellStream.{View as SomeView, view_of, writi
 ghost use Rattle.seg_receiver.specs.Delivered.{CanCarry, ArePackets};
 ghost use Rattle.seg_receiver.specs.ReceiveAnswers.{receive_kind, receive_command};
 ghost use Rattle.isdbt_cli.specs.Chain.{written_stream, IsDoneWith, CanCarryFor, HasFlags, IsNearFor, delivered_for, IsReceivedAs, WroteNear, IsChain};
-ghost use Rattle.isdbt_cli.specs.CommandLines.{Word, Command as SomeCommand, remux, code, receive, IsRemux, IsCode, IsCommand, Spells, IsFaultAt};
+ghost use Rattle.isdbt_cli.specs.CommandLines.{Command as SomeCommand, remux, code, receive, IsRemux, IsCode, IsCommand, Spells, IsFaultAt};
+ghost use Rattle.setting_words.specs.SettingWords.{Word};
 ghost use Rattle.isdbt_cli.specs.Faults.{run_fault_of, run_fault_of_code, run_fault_of_receive};
 ghost use Rattle.isdbt_cli.specs.Lines.{line_of, IsTold};
 ghost use Rattle.isdbt_cli.specs.Parsing.{command_of};

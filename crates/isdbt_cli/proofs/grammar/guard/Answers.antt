@@ -1,7 +1,7 @@
 use Rattle.std.proofs.Common.{◌≡◌, [], ◌∷◌, Some}
 use Rattle.std.proofs.lemmas.Result.{err_from_is_err_and}
 use Rattle.isdbt_base.specs.declared.kinds.Guard.TheVariants.{G4}
-use Rattle.isdbt_cli.specs.CommandLines.{guard_word}
+use Rattle.setting_words.specs.SettingWords.{guard_word}
 use Rattle.isdbt_cli.specs.Parsing.{BeginsWith, IsAny, IsStuck}
 use Rattle.isdbt_cli.proofs.Stuck.{missing, wrong, refused}
 use Rattle.isdbt_cli.proofs.grammar.guard.Goals as goal

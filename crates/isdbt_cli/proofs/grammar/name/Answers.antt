@@ -6,7 +6,7 @@ use Rattle.std.proofs.lemmas.Result.{err_from_is_err_and}
 use Rattle.isdbt_cli.specs.CommandLines.{IsName}
 use Rattle.isdbt_cli.proofs.Stuck.{missing, wrong}
 use Rattle.isdbt_cli.proofs.Transmissions.{some_name}
-use Rattle.isdbt_cli.proofs.Texts.{prefix_joins}
+use Rattle.setting_words.proofs.Texts.{prefix_joins}
 use Rattle.isdbt_cli.proofs.grammar.name.Goals as goal
 use Rattle.isdbt_cli.proofs.grammar.name.Goals.{in_default-via-in-Some+else-not-is_empty, in_default-via-in_default}
 

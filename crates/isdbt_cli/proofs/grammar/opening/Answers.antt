@@ -1,7 +1,7 @@
 use Rattle.std.proofs.Common.{[], ◌∷◌, ◌++◌}
 use Rattle.std.proofs.lemmas.Result.{err_from_is_err_and}
 use Rattle.isdbt_base.specs.Parameters.{IsAccepted}
-use Rattle.isdbt_cli.specs.CommandLines.{mode_word, guard_word, setting_word}
+use Rattle.setting_words.specs.SettingWords.{mode_word, guard_word, setting_word}
 use Rattle.isdbt_cli.specs.Parsing.{IsAny}
 use Rattle.isdbt_cli.proofs.Stuck.{stuck_piece, reads_none, reads_both}
 use Rattle.isdbt_cli.proofs.Transmissions.{Sent, sent_mode, mode_sent, sent_guard, guard_sent, sent_setting, setting_sent}

@@ -1,7 +1,7 @@
 use Rattle.std.proofs.Common.{◌≡◌, [], ◌∷◌, Some}
 use Rattle.std.proofs.lemmas.Result.{err_from_is_err_and}
 use Rattle.isdbt_base.specs.Parameters.{IsAccepted}
-use Rattle.isdbt_cli.specs.CommandLines.{setting_word}
+use Rattle.setting_words.specs.SettingWords.{setting_word}
 use Rattle.isdbt_cli.proofs.Transmissions.{some_setting, some_accepted}
 use Rattle.isdbt_cli.specs.Parsing.{BeginsWith, IsStuck}
 use Rattle.isdbt_cli.proofs.Stuck.{missing, wrong, refused}

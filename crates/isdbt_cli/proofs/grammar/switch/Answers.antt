@@ -2,7 +2,7 @@ use Rattle.std.proofs.Common.{refl, sym, subst}
 use Rattle.std.proofs.lemmas.Result.{err_from_is_err_and}
 use Rattle.isdbt_base.specs.Parameters.{IsAccepted}
 use Rattle.isdbt_base.specs.Plans.{Transmission, SameLayers}
-use Rattle.isdbt_cli.specs.CommandLines.{setting_word}
+use Rattle.setting_words.specs.SettingWords.{setting_word}
 use Rattle.isdbt_cli.specs.Parsing.{IsLater}
 use Rattle.isdbt_cli.proofs.Stuck.{misses}
 use Rattle.isdbt_cli.proofs.SwitchStuck.{is_last, in_switch, stuck_at_setting, SwitchRead, adds_switch, other_word, refused_layers}

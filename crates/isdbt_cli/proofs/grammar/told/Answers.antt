@@ -1,5 +1,5 @@
 use Rattle.std.proofs.lemmas.Result.{err_from_is_err_and}
-use Rattle.isdbt_cli.specs.CommandLines.{guard_word}
+use Rattle.setting_words.specs.SettingWords.{guard_word}
 use Rattle.isdbt_cli.specs.Parsing.{IsAny}
 use Rattle.isdbt_cli.proofs.Stuck.{misses}
 use Rattle.isdbt_cli.proofs.grammar.told.Goals as goal

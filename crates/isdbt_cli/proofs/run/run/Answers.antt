@@ -4,7 +4,6 @@ use Rattle.edge_io.specs.declared.shelf.Seat.TheVariants as seats
 use Rattle.coder_core.specs.SentCells.{sent_frame}
 use Rattle.remux_core.specs.Multiplex.{multiplexed}
 use Rattle.seg_receiver.proofs.AcceptedStream.{accepted-written}
-
 use Rattle.isdbt_cli.specs.Chain.{written_stream, delivered_for}
 use Rattle.isdbt_cli.specs.CommandLines.{remux, code, receive}
 use Rattle.isdbt_cli.specs.FrameLimit.{frame_limit}

@@ -1,8 +1,8 @@
 use Rattle.std.specs.Fmt.{digits}
 use Rattle.isdbt_base.specs.declared.kinds.Mode.TheVariants.{M1, M2, M3}
 use Rattle.isdbt_base.specs.declared.kinds.DepthCode.TheVariants.{D0, D1, D2, D3}
-use Rattle.isdbt_cli.proofs.Numbers.{spells_depth, same_depth, no_depth}
-use Rattle.isdbt_cli.proofs.fields.depth_of.Goals as goal
+use Rattle.setting_words.proofs.Numbers.{spells_depth, same_depth, no_depth}
+use Rattle.setting_words.proofs.fields.depth_of.Goals as goal
 
 pub returns-in-text-clause-spelled : goal.returns-in-text-clause-spelled
 unfolding digits

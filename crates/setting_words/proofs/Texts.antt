@@ -6,8 +6,8 @@ use Rattle.std.specs.declared.option.Option.{Option}
 use Rattle.std.specs.Str.Pattern.{FindsTextPrefix, FindsTextSuffix}
 use Rattle.std.proofs.lemmas.Str.Pattern.{IsSplitOnceResult, split_after, split_parts}
 use Rattle.std.proofs.lemmas.Bool.Decides.{Decides-eqb}
-use Rattle.isdbt_cli.specs.CommandLines.{Word}
-use Rattle.isdbt_cli.specs.Parsing.{Lacks, behind_comma}
+use Rattle.setting_words.specs.SettingWords.{Word}
+use Rattle.setting_words.specs.Reading.{Lacks, behind_comma}
 
 -- ---- bytes that a text lacks
 

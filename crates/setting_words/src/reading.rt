@@ -1,19 +1,18 @@
-//! A setting as one word: the layers with commas between them, the fields of each with colons.
+//! The word of a setting, read.
 
 ghost use Rattle.std.specs.Prelude.{◌≡◌, ◌++◌, Bool, Some, IfSome};
 ghost use Rattle.std.specs.declared.option.Option.{Option as Maybe};
 ghost use Rattle.isdbt_base.specs.LayerParameters.{LayerParameters, HasSegments};
 ghost use Rattle.isdbt_base.specs.Parameters.{Parameters, IsAccepted};
-ghost use Rattle.isdbt_cli.specs.CommandLines.{layer_text, partial_text, setting_word};
-ghost use Rattle.isdbt_cli.specs.Parsing.{comma, Lacks, behind_comma, other_layers_text, AreOthers};
+ghost use Rattle.setting_words.specs.SettingWords.{layer_text, partial_text, setting_word};
+ghost use Rattle.setting_words.specs.Reading.{comma, Lacks, behind_comma, other_layers_text, AreOthers, IsRead};
 
 use crate::fields::{depth_of, modulation_of, rate_of, segments_of};
 use isdbt_base::{LayerSetting, Mode, Setting};
 
 /// The setting that a word spells in a mode, or None exactly where it spells no accepted setting.
 pub fn setting_of(mode: Mode, word: &str) -> Option<Setting>
-    ensures spelled { IfSome result (λ s. word.now ≡ setting_word mode s) }
-    ensures found { (s : Parameters) → IsAccepted s → word.now ≡ setting_word mode s → result ≡ Some s }
+    ensures { IsRead mode word.now result }
 {
     let layers = word.strip_prefix("A:")?;
     let (first, others) = first_part(layers);

@@ -1,11 +1,11 @@
 use Rattle.std.proofs.Common.{◌≡◌, None, Some, ap, sym, ◌∙◌}
 use Rattle.std.specs.Prelude.{codes}
-use Rattle.isdbt_cli.specs.Parsing.{behind_comma}
-use Rattle.isdbt_cli.proofs.Texts.{prefix_joins}
+use Rattle.setting_words.specs.Reading.{behind_comma}
+use Rattle.setting_words.proofs.Texts.{prefix_joins}
 use Rattle.std.proofs.lemmas.List.{append_cancel_left}
-use Rattle.isdbt_cli.specs.CommandLines.{layer_text}
-use Rattle.isdbt_cli.proofs.LayerTexts.{second_is, third_is, no_third}
-use Rattle.isdbt_cli.proofs.setting_word.other_layers.Goals as goal
+use Rattle.setting_words.specs.SettingWords.{layer_text}
+use Rattle.setting_words.proofs.LayerTexts.{second_is, third_is, no_third}
+use Rattle.setting_words.proofs.reading.other_layers.Goals as goal
 
 pub returns-in_err-strip_prefix-clause-found : goal.returns-in_err-strip_prefix-clause-found
 returns-in_err-strip_prefix-clause-found c = λ b d ok e.

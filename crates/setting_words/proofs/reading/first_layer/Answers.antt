@@ -1,8 +1,8 @@
 use Rattle.std.proofs.Common.{◌≡◌, None, Some, sym, ◌∙◌}
-use Rattle.isdbt_cli.proofs.Texts.{suffix_joins}
-use Rattle.isdbt_cli.proofs.LayerTexts.{ends_partial}
+use Rattle.setting_words.proofs.Texts.{suffix_joins}
+use Rattle.setting_words.proofs.LayerTexts.{ends_partial}
 use Rattle.std.specs.Prelude.{codes}
-use Rattle.isdbt_cli.proofs.setting_word.first_layer.Goals as goal
+use Rattle.setting_words.proofs.reading.first_layer.Goals as goal
 
 pub returns-in_err-layer-in-Some-clause-found : goal.returns-in_err-layer-in-Some-clause-found
 returns-in_err-layer-in-Some-clause-found c = λ l partial ok e.

@@ -10,10 +10,10 @@ use Rattle.isdbt_base.specs.declared.setting.SettingFault.TheVariants.{PartialNo
 use Rattle.isdbt_base.specs.LayerParameters.{LayerParameters, HasSegments}
 use Rattle.isdbt_base.specs.Parameters.{Parameters, layer_sum, HasSegmentsIfUsed, HasNoGap, IsAccepted}
 use Rattle.isdbt_base.specs.Refusals.{refusal_of}
-use Rattle.isdbt_cli.specs.CommandLines.{Word, layer_text, partial_text, other_layer_text, setting_word}
-use Rattle.isdbt_cli.specs.Parsing.{Lacks, behind_comma, AreOthers, other_layers_text}
-use Rattle.isdbt_cli.proofs.Texts.{one_cut, is_behind}
-use Rattle.isdbt_cli.proofs.LayerTexts.{first_comma_free, comma_free, behind_both, behind_c, ends_partial, layer_text-injective}
+use Rattle.setting_words.specs.SettingWords.{Word, layer_text, partial_text, other_layer_text, setting_word}
+use Rattle.setting_words.specs.Reading.{Lacks, behind_comma, AreOthers, other_layers_text, IsRead}
+use Rattle.setting_words.proofs.Texts.{one_cut, is_behind}
+use Rattle.setting_words.proofs.LayerTexts.{first_comma_free, comma_free, behind_both, behind_c, ends_partial, layer_text-injective}
 
 pub others_accepted : (s : Parameters) → IsAccepted s → AreOthers s.b s.c
 others_accepted s ok = record { b_segments = ok.b_segments; c_segments = ok.c_segments; no_gap = ok.no_gap }
@@ -28,6 +28,13 @@ pub setting_parts : (mode : Mode) (layers first : Word) (others : Option (Bor Wo
 setting_parts mode layers first others s ok e whole lacks =
     one_cut 44 first (layer_text mode s.a ++ partial_text s.partial) (behind_comma others) (other_layers_text mode s.b s.c) lacks (first_comma_free mode s.a s.partial ok.a_segments) (is_behind others) (behind_both mode s.b s.c)
     (sym whole ∙ behind_a mode layers s e)
+
+-- the parts make the word
+pub parts_joined : (mode : Mode) (word layers first : Word) (others : Option (Bor Word)) (s : Parameters) → word ≡ codes "A:" ++ layers → layers ≡ first ++ behind_comma others → first ≡ layer_text mode s.a ++ partial_text s.partial → behind_comma others ≡ other_layers_text mode s.b s.c
+    → word ≡ setting_word mode s
+parts_joined mode word layers first others s e whole ea eb =
+    let joined : first ++ behind_comma others ≡ (layer_text mode s.a ++ partial_text s.partial) ++ other_layers_text mode s.b s.c = cc in
+    e ∙ ap (λ (x : Word). codes "A:" ++ x) (whole ∙ joined ∙ sym (append_assoc (layer_text mode s.a ++ partial_text s.partial) (other_layer_text mode (codes "B") s.b) (other_layer_text mode (codes "C") s.c)))
 
 -- an accepted setting isn't refused
 pub accepted-refusal : (s : Parameters) → IsAccepted s → refusal_of s ≡ None
@@ -86,3 +93,7 @@ setting_word-injective mode s t oks okt e =
     let first = same_first mode s.a t.a s.partial t.partial oks.a_segments okt.a_segments parts.0 in
     let others = same_others mode s.b s.c t.b t.c (others_accepted s oks) (others_accepted t okt) parts.1 in
     alike s t first.0 first.1 others.0 others.1
+
+-- what is read of a word that spells no accepted setting
+pub none_read : (mode : Mode) (word : Word) (r : Option Parameters) → r ≡ None → ((s : Parameters) → IsAccepted s → word ≡ setting_word mode s → ⊥) → IsRead mode word r
+none_read mode word r none never = rw none (record { spelled = tt; found = λ s ok e. absurd (never s ok e) })

@@ -1,9 +1,9 @@
 use Rattle.std.proofs.Common.{◌≡◌, None, Some, lit<, ◌∙◌}
 use Rattle.std.specs.Prelude.{decimal}
-use Rattle.isdbt_cli.specs.CommandLines.{modulation_text, rate_text}
-use Rattle.isdbt_cli.proofs.Texts.{split_missed, split_found, split_joins}
-use Rattle.isdbt_cli.proofs.LayerTexts.{segments_lack, modulation_lacks, rate_lacks, behind_rate, behind_modulation, behind_segments, layer_fields, layer_joins, makes_layer, made_layer}
-use Rattle.isdbt_cli.proofs.setting_word.layer_of.Goals as goal
+use Rattle.setting_words.specs.SettingWords.{modulation_text, rate_text}
+use Rattle.setting_words.proofs.Texts.{split_missed, split_found, split_joins}
+use Rattle.setting_words.proofs.LayerTexts.{segments_lack, modulation_lacks, rate_lacks, behind_rate, behind_modulation, behind_segments, layer_fields, layer_joins, makes_layer, made_layer}
+use Rattle.setting_words.proofs.reading.layer_of.Goals as goal
 
 pub returns-in_err-segments-clause-found : goal.returns-in_err-segments-clause-found
 returns-in_err-segments-clause-found c = λ l ok e. absurd (split_missed 58 c.args.text.now (decimal l.segments) (behind_segments c.args.mode l) c.split_once.result c.split_once.ensures.cases (lit< tt) c.in_err-segments.was (e ∙ layer_fields c.args.mode l) (segments_lack l ok))

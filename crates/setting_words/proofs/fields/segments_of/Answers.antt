@@ -1,8 +1,8 @@
 use Rattle.std.proofs.Common.{◌≡◌, lit≤}
 use Rattle.std.specs.Prelude.{decimal}
 use Rattle.std.specs.Fmt.{digits}
-use Rattle.isdbt_cli.proofs.Numbers.{each_count, same_count}
-use Rattle.isdbt_cli.proofs.fields.segments_of.Goals as goal
+use Rattle.setting_words.proofs.Numbers.{each_count, same_count}
+use Rattle.setting_words.proofs.fields.segments_of.Goals as goal
 
 pub returns-in-text-clause-spelled : goal.returns-in-text-clause-spelled
 unfolding digits

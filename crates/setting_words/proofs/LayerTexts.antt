@@ -17,10 +17,10 @@ use Rattle.isdbt_base.specs.declared.kinds.DepthCode.{DepthCode}
 use Rattle.isdbt_base.specs.declared.kinds.DepthCode.TheVariants.{D0, D1, D2, D3}
 use Rattle.isdbt_base.specs.LayerParameters.{LayerParameters, HasSegments}
 use Rattle.isdbt_base.specs.Parameters.{HasSegmentsIfUsed}
-use Rattle.isdbt_cli.specs.CommandLines.{Word, modulation_text, rate_text, depth_text, layer_text, partial_text, other_layer_text}
-use Rattle.isdbt_cli.specs.Parsing.{Lacks, behind_comma, AreOthers, other_layers_text}
-use Rattle.isdbt_cli.proofs.Numbers.{each_count, depth_text-injective}
-use Rattle.isdbt_cli.proofs.Texts.{is_plain, no_comma, no_colon, lacks_more, lacks_none, lacks_both, IsBehind, is_behind, one_cut, other_end}
+use Rattle.setting_words.specs.SettingWords.{Word, modulation_text, rate_text, depth_text, layer_text, partial_text, other_layer_text}
+use Rattle.setting_words.specs.Reading.{Lacks, behind_comma, AreOthers, other_layers_text}
+use Rattle.setting_words.proofs.Numbers.{each_count, depth_text-injective}
+use Rattle.setting_words.proofs.Texts.{is_plain, no_comma, no_colon, lacks_more, lacks_none, lacks_both, IsBehind, is_behind, one_cut, other_end}
 
 -- ---- the fields have no comma and no colon
 

@@ -1,0 +1,3 @@
+pub mod SettingWords
+pub mod Reading
+pub mod Lines
