@@ -25,6 +25,8 @@ mod inputs;
 mod line_tests;
 mod lines;
 #[cfg(test)]
+mod partial_tests;
+#[cfg(test)]
 mod quiet_tests;
 #[cfg(test)]
 mod receive_tests;

@@ -262,10 +262,15 @@ fn check_receive(
     input: &str,
 ) -> Result<(), Fail> {
     let words = words_of(alloc, list)?;
-    let Command::Receive { form, name } = words.command()? else {
+    let Command::Receive {
+        form,
+        partial,
+        name,
+    } = words.command()?
+    else {
         return Err(Fail::from("the words are another command"));
     };
-    assert_eq!(rt; form, version);
+    assert_eq!(rt; (form, partial), (version, false));
     assert!(rt; name == input);
     Ok(())
 }
