@@ -1,6 +1,6 @@
 //! Partial reception: layer A alone, from segment 0.
 
-ghost use Rattle.std.specs.Prelude.{◌≡◌, IfOk};
+ghost use Rattle.std.specs.Prelude.{◌≡◌, length, IfOk};
 ghost use Rattle.isdbt_base.specs.declared.kinds.Mode.TheVariants.{M1 as first_mode};
 ghost use Rattle.seg_receiver.specs.PartialReceiver.{mode_of, symbols_of};
 
@@ -182,7 +182,9 @@ fn no_partial_reception(rt: HostRuntime) -> Result<(), Fail> {
 }
 
 /// The cells of segment 0 in a symbol of mode 1.
-fn segment_cells(symbol: &[u8]) -> [Cell; 96] {
+fn segment_cells(symbol: &[u8]) -> [Cell; 96]
+    ensures { length result ≡ 96 }
+{
     let mut cells = [Cell { i: 0, q: 0 }; 96];
     let pairs = symbol.get(1..).unwrap_or(&[]).chunks_exact(2);
     for (cell, pair) in cells.iter_mut().zip(pairs) {
