@@ -11,7 +11,7 @@ use coder_core::{CodeFault, code};
 use edge_io::{MemoryShelf, MemorySink, Seat, Shelf};
 use isdbt_base::{Form, Guard, Mode, Plan, Reading, Writing};
 use remux_core::{RemuxFault, remux};
-use seg_receiver::{ReceiveFault, receive};
+use seg_receiver::{ReceiveFault, receive, receive_partial};
 use std::alloc::Global;
 use std::test::Fail;
 
@@ -187,6 +187,19 @@ pub fn receive_into(
     out: MemorySink,
 ) -> Result<ReceiveEnd, Fail> {
     receive_stream(alloc, Form::V1 { mode, guard }, LIMIT, &whole(cells), out)
+}
+
+/// Receives layer A alone of a stream of cells of this version.
+pub fn receive_part(
+    alloc: Global,
+    form: Form,
+    input: &LoneInput,
+    mut out: MemorySink,
+) -> Result<ReceiveEnd, Fail> {
+    let mut shelf = lone_shelf(alloc, input)?;
+    let answer = receive_partial(alloc, Reading { form }, LIMIT, &mut shelf, &mut out);
+    let left = left_at(alloc, &mut shelf, Seat::In, input.stream.len())?;
+    Ok(ReceiveEnd { answer, out, left })
 }
 
 /// Receives a stream of cells of version 2.

@@ -15,7 +15,7 @@ use std::test::Fail;
 use tmcc_word::TmccFault;
 
 /// The front of a stream with changed bytes.
-fn changed_stream(
+pub fn changed_stream(
     alloc: Global,
     stream: &[u8],
     bytes: usize,

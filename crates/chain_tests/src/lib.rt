@@ -21,6 +21,10 @@ mod model_rows;
 #[cfg(test)]
 mod model_tests;
 #[cfg(test)]
+mod partial_rows;
+#[cfg(test)]
+mod partial_tests;
+#[cfg(test)]
 mod placed;
 #[cfg(test)]
 mod plans;
