@@ -34,6 +34,7 @@ measure() {
 
 one=A:13:qpsk:1/2:0
 full=A:13:64qam:7/8:0
+split=A:1:64qam:7/8:0:partial,B:12:64qam:7/8:0
 three=A:1:qpsk:2/3:4:partial,B:4:16qam:3/4:2,C:8:64qam:7/8:1
 other=A:1:qpsk:2/3:0:partial,B:4:16qam:3/4:0,C:8:64qam:7/8:0
 seven="$three @40 $other @80 $three @120 $other @160 $three @200 $other @240 $three @280 $other"
@@ -55,6 +56,9 @@ measure "code, mode 3, three layers" 2036940 231.336 "$top/isdbt" code 3 1/8 $th
 "$top/isdbt" code 3 1/8 $three IN="$folder/three.bts" >"$folder/three.cells"
 measure "receive, mode 1, QPSK 1/2" 261120 64.26 "$top/isdbt" receive 1 1/4 IN="$folder/one.cells"
 measure "receive, mode 3, 64QAM 7/8 (the highest rate)" 940032 231.336 "$top/isdbt" receive 3 1/8 IN="$folder/full.cells"
+"$top/isdbt" remux 3 1/8 $split A="$folder/part.ts" B="$folder/part.ts" | "$top/isdbt" code 3 1/8 $split IN=- v2 >"$folder/split.cells"
+measure "receive, mode 3, two layers at the highest rate, with heads" 940032 231.336 "$top/isdbt" receive IN="$folder/split.cells"
+measure "receive partial, the same cells" 47376 231.336 "$top/isdbt" receive IN="$folder/split.cells" partial
 # One axis value of 100 negated, at random; a TMCC byte that is met keeps its lowest bit.
 perl -e 'binmode STDIN; binmode STDOUT; srand 1;
 while (read STDIN, my $bytes, 100000) {
