@@ -136,6 +136,13 @@ impl Setting {
         self.partial
     }
 
+    /// The parameters of layer A, which each setting uses.
+    pub fn a(&self) -> LayerSetting
+        ensures { result ≡ self.now.a }
+    {
+        self.a
+    }
+
     /// The parameters of a layer, or None exactly where it is unused.
     pub fn layer(&self, layer: Layer) -> Option<LayerSetting>
         ensures { result ≡ layer_of self.now layer }
