@@ -7,11 +7,11 @@ ghost use Rattle.edge_io.specs.MemoryShelf.{is_seat_open};
 
 use crate::plans::{PlanRow, SINGLE, plan_of};
 use crate::streams::marked_packets;
-use coder_core::{CodeFault, code};
+use coder_core::{CodeFault, code, show_bts};
 use edge_io::{MemoryShelf, MemorySink, Seat, Shelf};
 use isdbt_base::{Form, Guard, Mode, Plan, Reading, Writing};
 use remux_core::{RemuxFault, remux};
-use seg_receiver::{ReceiveFault, receive, receive_partial};
+use seg_receiver::{ReceiveFault, receive, receive_partial, show_cells};
 use std::alloc::Global;
 use std::test::Fail;
 
@@ -29,7 +29,7 @@ pub struct RemuxEnd {
     pub left: usize,
 }
 
-/// How a coding ended, what it wrote, and how many bytes of its input it left.
+/// How a coding or a listing ended, what it wrote, and how many bytes of its input it left.
 #[derive(Drop)]
 pub struct CodeEnd {
     pub answer: Result<u32, CodeFault>,
@@ -37,7 +37,7 @@ pub struct CodeEnd {
     pub left: usize,
 }
 
-/// How a receiving ended, what it wrote, and how many bytes of its input it left.
+/// How a receiving or a listing ended, what it wrote, and how many bytes of its input it left.
 #[derive(Drop)]
 pub struct ReceiveEnd {
     pub answer: Result<u32, ReceiveFault>,
@@ -161,6 +161,23 @@ pub fn code_into(
     code_plan(alloc, &plan_of(row)?, how, &whole(stream), out)
 }
 
+/// Lists the frames of a stream of broadcast packets, in the mode and with the guard interval of a row.
+pub fn show_packets(
+    alloc: Global,
+    row: &PlanRow,
+    limit: u32,
+    input: &LoneInput,
+    mut out: MemorySink,
+) -> Result<CodeEnd, Fail>
+    requires some { 0 < limit }
+    requires few { limit ≤ 16777216 }
+{
+    let mut shelf = lone_shelf(alloc, input)?;
+    let answer = show_bts(alloc, row.mode, row.guard, limit, &mut shelf, &mut out);
+    let left = left_at(alloc, &mut shelf, Seat::In, input.stream.len())?;
+    Ok(CodeEnd { answer, out, left })
+}
+
 /// Receives a stream of cells of this version with a limit on frames.
 pub fn receive_stream(
     alloc: Global,
@@ -198,6 +215,23 @@ pub fn receive_part(
 ) -> Result<ReceiveEnd, Fail> {
     let mut shelf = lone_shelf(alloc, input)?;
     let answer = receive_partial(alloc, Reading { form }, LIMIT, &mut shelf, &mut out);
+    let left = left_at(alloc, &mut shelf, Seat::In, input.stream.len())?;
+    Ok(ReceiveEnd { answer, out, left })
+}
+
+/// Lists the frames of a stream of cells of this version with a limit on frames.
+pub fn show_stream(
+    alloc: Global,
+    form: Form,
+    limit: u32,
+    input: &LoneInput,
+    mut out: MemorySink,
+) -> Result<ReceiveEnd, Fail>
+    requires some { 0 < limit }
+    requires few { limit ≤ 16777216 }
+{
+    let mut shelf = lone_shelf(alloc, input)?;
+    let answer = show_cells(alloc, Reading { form }, limit, &mut shelf, &mut out);
     let left = left_at(alloc, &mut shelf, Seat::In, input.stream.len())?;
     Ok(ReceiveEnd { answer, out, left })
 }

@@ -17,6 +17,8 @@ mod head_rows;
 #[cfg(test)]
 mod head_tests;
 #[cfg(test)]
+mod hostile_tests;
+#[cfg(test)]
 mod model_rows;
 #[cfg(test)]
 mod model_tests;
@@ -34,6 +36,14 @@ mod receive_tests;
 mod received_tests;
 #[cfg(test)]
 mod remux_tests;
+#[cfg(test)]
+mod show_bts_rows;
+#[cfg(test)]
+mod show_bts_tests;
+#[cfg(test)]
+mod show_cells_rows;
+#[cfg(test)]
+mod show_cells_tests;
 #[cfg(test)]
 mod streams;
 #[cfg(test)]

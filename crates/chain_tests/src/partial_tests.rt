@@ -67,7 +67,7 @@ fn partial_reception_alone(rt: HostRuntime) -> Result<(), Fail> {
 }
 
 /// The form of a plan's cells in version 1.
-fn first_form(plan: &Plan) -> Form {
+pub fn first_form(plan: &Plan) -> Form {
     Form::V1 {
         mode: plan.mode(),
         guard: plan.guard(),

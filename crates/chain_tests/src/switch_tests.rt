@@ -124,7 +124,7 @@ const SWITCHES: [Switch; 9] = [
 ];
 
 /// The countdown of each slot of a frame, if all are the same.
-fn countdown_of(frame: &[u8]) -> Option<u8> {
+pub fn countdown_of(frame: &[u8]) -> Option<u8> {
     let countdown = frame.get(189).copied()? % 16;
     let are_same = frame
         .chunks_exact(204)
@@ -133,7 +133,7 @@ fn countdown_of(frame: &[u8]) -> Option<u8> {
 }
 
 /// Frames of broadcast packets with countdown 15.
-fn without_countdown(alloc: Global, frames: &[u8]) -> Result<Vec<u8>, Fail> {
+pub fn without_countdown(alloc: Global, frames: &[u8]) -> Result<Vec<u8>, Fail> {
     let mut bytes = frames.to_vec(alloc)?;
     for slot in bytes.chunks_exact_mut(204) {
         slot[189] |= 15;

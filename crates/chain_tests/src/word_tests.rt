@@ -1,9 +1,12 @@
 //! What `receive` answers and writes where TMCC words are changed. Bits of a word are named by their numbers, B0 to B203.
 
-use crate::commands::{ReceiveEnd, received, single_cells};
-use crate::plans::SINGLE;
+use crate::commands::{LIMIT, ROOM, ReceiveEnd, received, show_stream, single_cells, whole};
+use crate::partial_tests::first_form;
+use crate::plans::{SINGLE, plan_of};
+use crate::show_cells_rows::SINGLE_LINES;
 use crate::streams::{CELLS, FRAME, check, check_count, check_null_packets, frame_at};
 use crate::words::{COUNTDOWN, Change, SYNC, changed_cells, information, receive_single};
+use edge_io::MemorySink;
 use isdbt_base::Layer;
 use seg_receiver::ReceiveFault;
 use std::alloc::Global;
@@ -128,6 +131,25 @@ const REFUSED_LAYERS: [Refusal; 9] = [
     },
 ];
 
+/// Checks that a frame is refused in the listing too, behind the lines of the frames before.
+fn check_listed(
+    rt: &impl Abort,
+    alloc: Global,
+    cells: &[u8],
+    frame: u32,
+    fault: ReceiveFault,
+) -> Result<(), Fail> {
+    let out = MemorySink::new(alloc, ROOM)?;
+    let form = first_form(&plan_of(&SINGLE)?);
+    let ended = show_stream(alloc, form, LIMIT, &whole(cells), out)?;
+    check(rt, ended.answer == Err(fault));
+    let lines = ended.out.bytes();
+    let ends = lines.iter().filter(|byte| **byte == 0x0A).count();
+    check_count(rt, ends, frame as usize);
+    check(rt, SINGLE_LINES.as_bytes().starts_with(lines));
+    Ok(())
+}
+
 /// Checks that a frame is refused with these words in it, and that the frames before are written.
 fn check_refusals(
     rt: &impl Abort,
@@ -144,7 +166,8 @@ fn check_refusals(
             bits: row.bits,
             fits: row.fits,
         };
-        let ended = receive_single(alloc, &changed_cells(alloc, &cells, &change)?)?;
+        let changed = changed_cells(alloc, &cells, &change)?;
+        let ended = receive_single(alloc, &changed)?;
         let fault = ReceiveFault::BadTmcc {
             frame,
             reason: row.reason,
@@ -152,6 +175,7 @@ fn check_refusals(
         check(rt, ended.answer == Err(fault));
         let written = FRAME.wrapping_mul(frame as usize);
         check(rt, Some(ended.out.bytes()) == whole.bytes().get(..written));
+        check_listed(rt, alloc, &changed, frame, fault)?;
     }
     Ok(())
 }

@@ -24,19 +24,25 @@ pub struct Change {
     pub fits: bool,
 }
 
-/// The word of a frame of cells.
+/// The word of a frame of cells of mode 1.
 pub fn word_at(cells: &[u8], frame: usize) -> [bool; 204] {
+    word_of_symbols(frame_at(cells, CELLS, frame), SYMBOL)
+}
+
+/// The word of a frame of symbols of so many bytes.
+pub fn word_of_symbols(frame: &[u8], size: usize) -> [bool; 204] {
     let mut word = [false; 204];
-    let symbols = frame_at(cells, CELLS, frame).chunks_exact(SYMBOL);
-    for (bit, symbol) in word.iter_mut().zip(symbols) {
+    for (bit, symbol) in word.iter_mut().zip(frame.chunks_exact(size.max(1))) {
         *bit = symbol[0] % 2 == 1;
     }
     word
 }
 
-/// Puts a word into a frame of cells.
-fn put_word(cells: &mut [u8], frame: usize, word: &[bool; 204]) {
-    let symbols = cells.chunks_exact_mut(SYMBOL).skip(frame.wrapping_mul(204));
+/// Puts a word into a frame of cells of symbols of so many bytes.
+pub fn put_word(cells: &mut [u8], size: usize, frame: usize, word: &[bool; 204]) {
+    let symbols = cells
+        .chunks_exact_mut(size.max(1))
+        .skip(frame.wrapping_mul(204));
     for (symbol, bit) in symbols.zip(word) {
         symbol[0] = u8::from(*bit);
     }
@@ -60,7 +66,7 @@ fn announce(word: &mut [bool; 204]) {
 }
 
 /// Gives a word the parity of its bits from B20 on.
-fn fit(word: &mut [bool; 204]) {
+pub fn fit(word: &mut [bool; 204]) {
     let mut bits = [false; 102];
     for (to, bit) in bits.iter_mut().zip(word.iter().skip(20)) {
         *to = *bit;
@@ -81,7 +87,7 @@ pub fn changed_cells(alloc: Global, cells: &[u8], change: &Change) -> Result<Vec
         fit(&mut word);
     }
     let mut changed = cells.to_vec(alloc)?;
-    put_word(&mut changed, change.frame, &word);
+    put_word(&mut changed, SYMBOL, change.frame, &word);
     Ok(changed)
 }
 

@@ -1,5 +1,5 @@
 -- What a coder stands for from one frame of a plan to the next.
-use Rattle.std.proofs.Common.{◌≡◌, ℕ, ◌+◌, ◌-◌, ◌≤◌, ◌<◌, Bool, true, false, List, ◌++◌, length, take, refl, ap, sym, ◌∙◌, subst, arith, inl, inr}
+use Rattle.std.proofs.Common.{◌≡◌, ℕ, ◌+◌, ◌-◌, ◌≤◌, ◌<◌, Bool, true, false, List, ◌++◌, refl, ap, sym, ◌∙◌, subst, arith, inl, inr}
 use Rattle.std.specs.Prelude.{Some, None, ◌==◌, ◌&&◌, nat_lt}
 use Rattle.std.specs.declared.option.Option.{Option}
 use Rattle.std.proofs.lemmas.Bool.{cases_lt, lt-ltb, eq-eqb, eqb-true}
@@ -18,7 +18,7 @@ use Rattle.coder_core.specs.InputFrames.{first_head, packet_in, input_frames}
 use Rattle.coder_core.specs.SentCells.{sent_head, epoch_frame_cells, plan_word}
 use Rattle.coder_core.specs.CodeRefusals.{coded_frame}
 use Rattle.coder_core.specs.Coder.{mode_of, guard_of, setting_of, IsFrameOf, StandsFor}
-use Rattle.coder_core.specs.FrameSteps.{IsOfFrame, StandsAt, Taken, AtFrame}
+use Rattle.coder_core.specs.FrameSteps.{Taken, IsOfFrame, StandsAt, coding_run, AtFrame}
 use Rattle.coder_core.proofs.FoundHead.{coded-found}
 use Rattle.coder_core.proofs.CodeProgress.{next}
 
@@ -78,12 +78,12 @@ stands-fresh c p frames f first stands = subst (StandsFor c frames (at_frame p f
 -- ---- what a coder that is that of a frame makes of it
 
 -- the packets of the frame are those of the buffer
-pub is_frame : (how : Writing) (p : Schedule) (input : List ℕ) (limit head f : ℕ) (frame : List ℕ) (left before now : Option (List ℕ)) (s : Parameters) (mode : Mode) → Taken how p input limit head f frame left before now
+pub is_frame : (how : Writing) (p : Schedule) (input : List ℕ) (limit head f : ℕ) (frame : List ℕ) (left before now : Option (List ℕ)) (s : Parameters) (mode : Mode) → Taken (coding_run how p input limit head) f frame left before now
     → IsFrameOf s mode frame (input_frames p input head) ((at_frame p f).start + (f - (at_frame p f).start))
 is_frame how p input limit head f frame left before now s mode t =
     let least = epoch_start-le p f in
     subst (IsFrameOf s mode frame (input_frames p input head)) (let here : f ≡ (at_frame p f).start + (f - (at_frame p f).start) = omega (arith, least) in here)
-    (record { each = λ x j less. ap (λ xs. packet_in xs x j) (sym t.frame_is) })
+    (record { each = λ x j less. ap (λ xs. packet_in xs x j) (sym t.whole.frame_is) })
 
 pub cells_are : (c : Coder) (how : Writing) (p : Schedule) (input : List ℕ) (head f : ℕ) → first_head input ≡ Some head → IsOfFrame c p f
     → sent_head how p f ++ epoch_frame_cells (mode_of c) (setting_of c) (input_frames p input head) (at_frame p f).start (f - (at_frame p f).start) (plan_word p f) ≡ coded_frame how p input f
@@ -95,16 +95,9 @@ cells_are c how p input head f found of =
     ∙ sym (coded-found how p input head f found)
 
 -- what is known behind the writing of a frame
-pub coded : (how : Writing) (p : Schedule) (input : List ℕ) (limit head f : ℕ) (c : Coder) (frame other : List ℕ) (left before mid after : Option (List ℕ)) → IsPlan p → Taken how p input limit head f frame left before mid
+pub coded : (how : Writing) (p : Schedule) (input : List ℕ) (limit head f : ℕ) (c : Coder) (frame other : List ℕ) (left before mid after : Option (List ℕ)) → IsPlan p → Taken (coding_run how p input limit head) f frame left before mid
     → after ≡ append_known mid (coded_frame how p input f) → StandsFor c (input_frames p input head) (at_frame p f).start (f - (at_frame p f).start + 1) → AtFrame how p input limit head (f + 1) 0 c other left before after
 coded how p input limit head f c frame other left before mid after plan t wrote stands = record {
-  so_far = next how p input limit head f frame other left before mid after t wrote;
+  so_far = next (coding_run how p input limit head) f frame other left before mid after t wrote;
   stands = stands-next c p (input_frames p input head) f plan stands;
 }
-
--- all of them were written, or some
-pub wrote_all : (cells frame : List ℕ) (mid after : Option (List ℕ)) → cells ≡ frame → after ≡ append_known mid cells → after ≡ append_known mid frame
-wrote_all cells frame mid after is wrote = wrote ∙ ap (append_known mid) is
-
-pub wrote_some : (cells frame : List ℕ) (n : ℕ) (mid after : Option (List ℕ)) → cells ≡ frame → n < length cells → after ≡ append_known mid (take n cells) → (n < length frame) × (after ≡ append_known mid (take n frame))
-wrote_some cells frame n mid after same short wrote = (subst (λ (xs : List ℕ). n < length xs) same short, wrote ∙ ap (λ xs. append_known mid (take n xs)) same)

@@ -19,6 +19,7 @@ pub mod RefusalKinds
 pub mod Searching
 pub mod SearchEnds
 pub mod SegmentCells
+pub mod SlotCounts
 pub mod Slots
 pub mod StablePlan
 pub mod SymbolBytes

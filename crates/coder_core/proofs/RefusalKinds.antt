@@ -9,7 +9,7 @@ use Rattle.isdbt_base.specs.Parameters.{Parameters}
 use Rattle.isdbt_base.specs.Outcome.{first_some}
 use Rattle.coder_core.specs.declared.fault.CodeFault.{CodeFault}
 use Rattle.coder_core.specs.declared.fault.CodeFault.TheVariants.{WrongCount}
-use Rattle.coder_core.specs.FrameChecks.{bad_sync, bad_sync_slot, misplaced, misplaced_slot, wrong_count, layer_count, refusal}
+use Rattle.coder_core.specs.FrameChecks.{bad_sync, bad_sync_slot, misplaced, misplaced_slot, framing_refusal, wrong_count, layer_count, refusal}
 use Rattle.edge_io.specs.FrameAnswers.{frame_refused}
 use Rattle.coder_core.specs.Answers.{code_kind}
 
@@ -35,6 +35,14 @@ bad-kind first frame (Some slot) is = rw is refl
 head-kind : (number : ℕ) (frame : List ℕ) (o : Option ℕ) → misplaced_slot frame ≡ o → IfSome (misplaced number frame) OfFrame
 head-kind number frame None is = rw is tt
 head-kind number frame (Some slot) is = rw is refl
+
+pub framing-kind : (number first : ℕ) (frame : List ℕ) (fault : CodeFault) → framing_refusal number first frame ≡ Some fault → OfFrame fault
+framing-kind number first frame fault is = subst (λ o. IfSome o OfFrame) is (picked (bad_sync first frame) (misplaced number frame) (bad-kind first frame _ refl) (head-kind number frame _ refl))
+  where
+    picked : (a b : Option CodeFault) → IfSome a OfFrame → IfSome b OfFrame → IfSome (first_some (a ∷ b ∷ [])) OfFrame
+    picked (Some x) b ka kb = ka
+    picked None (Some x) ka kb = kb
+    picked None None ka kb = tt
 
 count-kind : (b : Bool) (f : ℕ) (x : Layer) (n : ℕ) → IfSome (if b then None else Some (WrongCount f x n)) OfFrame
 count-kind true f x n = tt

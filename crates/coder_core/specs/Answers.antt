@@ -1,7 +1,10 @@
--- What an answer of the coding says of the input, of what was written and of what was taken: it is a command over one input.
-use Rattle.std.specs.Prelude.{◌≡◌, ℕ, ◌+◌, ◌*◌, ◌≤◌, ◌<◌, false, List, [], length, drop, Some, None, Ok, Err}
+-- What an answer says of the input, of what was written and of what was taken, of a coding and of a listing: each is a command over one input.
+use Rattle.std.specs.Prelude.{◌≡◌, ℕ, ◌+◌, ◌*◌, ◌≤◌, ◌<◌, Bool, false, List, [], length, drop, Some, None, Ok, Err}
 use Rattle.std.specs.declared.option.Option.{Option}
 use Rattle.std.specs.declared.result.Result.{Result}
+use Rattle.isdbt_base.specs.declared.kinds.Mode.{Mode}
+use Rattle.isdbt_base.specs.declared.kinds.Guard.{Guard}
+use Rattle.isdbt_base.specs.Numbers.{slots_per_frame}
 use Rattle.isdbt_base.specs.Plans.{Schedule}
 use Rattle.isdbt_base.specs.Epochs.{begins_later}
 use Rattle.isdbt_base.specs.declared.stream.Writing.{Writing}
@@ -9,8 +12,10 @@ use Rattle.ts_packet.specs.Packets.{piece}
 use Rattle.edge_io.specs.FrameAnswers.{FaultKind, frame_refused, read_failed, write_failed, no_memory, LoneCommand}
 use Rattle.coder_core.specs.declared.fault.CodeFault.{CodeFault}
 use Rattle.coder_core.specs.declared.fault.CodeFault.TheVariants.{ReadFault, WriteFault, NoMemory}
+use Rattle.coder_core.specs.FrameChecks.{framing_refusal}
 use Rattle.coder_core.specs.InputFrames.{first_head, bears_head}
-use Rattle.coder_core.specs.CodeRefusals.{search_limit, packet_refusal, search_refusal, search_end, code_refusal, is_there, code_starts, coded_frame}
+use Rattle.coder_core.specs.CodeRefusals.{search_limit, packet_refusal, search_refusal, search_end, FrameCut, plan_cut, stream_refusal, has_frame, stream_starts, coded_frame}
+use Rattle.coder_core.specs.ShownFrames.{shown_frame}
 
 -- of what kind a fault is
 abbrev pub code_kind : CodeFault → FaultKind
@@ -19,14 +24,36 @@ code_kind WriteFault = write_failed
 code_kind NoMemory = no_memory
 code_kind fault = frame_refused
 
--- the coding of an input with a plan, in a version of the stream and with a limit on frames; memory is asked for before the first read, and where a later epoch opens
-abbrev pub code_command : Writing → Schedule → List ℕ → ℕ → LoneCommand CodeFault
-code_command how p input limit = record {
-  frames = record { refusal = code_refusal p input limit; is_there = is_there p input; frame = coded_frame how p input; opens = begins_later p; ahead = 1 };
+-- a command over the frames of broadcast packets: how they are cut, what is written of a frame of an input, and at which frames memory is asked for
+pub record PacketCommand : Type 0 where
+  pub cut : FrameCut
+  pub frame : List ℕ → ℕ → List ℕ
+  pub opens : ℕ → Bool
+
+-- that command over an input, with a limit on frames
+abbrev pub packet_command : PacketCommand → List ℕ → ℕ → LoneCommand CodeFault
+packet_command c input limit = record {
+  frames = record { refusal = stream_refusal c.cut input limit; is_there = has_frame c.cut.slots input; frame = c.frame input; opens = c.opens; ahead = 1 };
   input = input;
   limit = limit;
-  starts = code_starts p input;
+  starts = stream_starts c.cut.slots input;
 }
+
+-- the coding with a plan, in a version of the stream; memory is asked for where a later epoch opens
+abbrev pub coding : Writing → Schedule → PacketCommand
+coding how p = record { cut = plan_cut p; frame = coded_frame how p; opens = begins_later p }
+
+-- the coding of an input; memory is asked for before the first read, too
+abbrev pub code_command : Writing → Schedule → List ℕ → ℕ → LoneCommand CodeFault
+code_command how p input limit = packet_command (coding how p) input limit
+
+-- the listing of frames of so many slots: a whole frame is refused for a packet without the sync byte or a misplaced head flag, and no memory is asked for
+abbrev pub showing : ℕ → PacketCommand
+showing slots = record { cut = record { slots = λ f. slots; check = framing_refusal }; frame = shown_frame slots; opens = λ f. false }
+
+-- the listing of the frames of an input, of a mode and a guard interval
+abbrev pub show_command : Mode → Guard → List ℕ → ℕ → LoneCommand CodeFault
+show_command mode guard input limit = packet_command (showing (slots_per_frame mode guard)) input limit
 
 -- a read stopped in the search for the first head, in the packet behind so many that are good and don't bear it
 pub record StoppedInSearch (input : List ℕ) (taken : ℕ) : Type 0 where

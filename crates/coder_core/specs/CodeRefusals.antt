@@ -1,4 +1,4 @@
--- Which frames of a stream of broadcast packets the coder refuses, and why.
+-- Which frames of a stream of broadcast packets are refused, and why, and which the coder refuses.
 use Rattle.std.specs.Prelude.{ℕ, ◌+◌, ◌-◌, ◌*◌, Bool, false, ◌==◌, ◌||◌, nat_lt, min, is_some, unwrap_or, find, Option, Some, None, List, [], ◌∷◌, map, length, slice_index, if◌then◌else◌}
 use Rattle.std.specs.List.{range_with_len}
 use Rattle.isdbt_base.specs.Plans.{Schedule, at_frame}
@@ -53,50 +53,67 @@ search_end input = min (204 * (search_stop input + 1)) (204 * search_limit + 1)
 
 -- ---- the frames from the first head on
 
+-- how a stream of broadcast packets is cut into frames: the slots of each, and why a whole one is refused, by its number, the packets before it and its bytes
+pub record FrameCut : Type 0 where
+  pub slots : ℕ → ℕ
+  pub check : ℕ → ℕ → List ℕ → Option CodeFault
+
 -- the stream has a byte of a frame
-abbrev pub has_byte_of : Schedule → List ℕ → ℕ → ℕ → Bool
-has_byte_of p input head f = nat_lt (frame_start p head f) (length input)
+abbrev pub has_byte_of : (ℕ → ℕ) → List ℕ → ℕ → ℕ → Bool
+has_byte_of slots input head f = nat_lt (frame_start slots head f) (length input)
 
 -- the stream ends in a frame
-abbrev pub truncated : Schedule → List ℕ → ℕ → ℕ → Option CodeFault
-truncated p input head f =
-    if nat_lt (length input) (frame_start p head f + 204 * slots_at p f) then Some (Truncated seats.In (length input - frame_start p head f)) else None
+abbrev pub truncated : (ℕ → ℕ) → List ℕ → ℕ → ℕ → Option CodeFault
+truncated slots input head f =
+    if nat_lt (length input) (frame_start slots head f + 204 * slots f) then Some (Truncated seats.In (length input - frame_start slots head f)) else None
 
--- why a frame that is there is refused: it stands at the limit of frames, it is unfinished, or its packets can't be coded
-abbrev pub frame_refusal : Schedule → List ℕ → ℕ → ℕ → ℕ → Option CodeFault
-frame_refusal p input limit head f =
-    if has_byte_of p input head f
-    then first_some ((if f == limit then Some TooLong else None) ∷ truncated p input head f
-    ∷ refusal (at_frame p f).setting (at_frame p f).mode f (head + packets_before p f) (frame_at p input head f) ∷ [])
+-- why a frame that is there is refused: it stands at the limit of frames, it is unfinished, or it fails its check
+abbrev pub frame_refusal : FrameCut → List ℕ → ℕ → ℕ → ℕ → Option CodeFault
+frame_refusal c input limit head f =
+    if has_byte_of c.slots input head f
+    then first_some ((if f == limit then Some TooLong else None) ∷ truncated c.slots input head f
+    ∷ c.check f (head + packets_before c.slots f) (frame_at c.slots input head f) ∷ [])
     else None
 
-abbrev pub refusal_from : Schedule → List ℕ → ℕ → ℕ → Option ℕ → Option CodeFault
-refusal_from p input limit f None = None
-refusal_from p input limit f (Some head) = frame_refusal p input limit head f
+abbrev pub refusal_from : FrameCut → List ℕ → ℕ → ℕ → Option ℕ → Option CodeFault
+refusal_from c input limit f None = None
+refusal_from c input limit f (Some head) = frame_refusal c input limit head f
 
--- why frame f is refused, with a limit on frames; the search belongs to frame 0
-unfoldable pub code_refusal : Schedule → List ℕ → ℕ → ℕ → Option CodeFault
-code_refusal p input limit f = first_some ((if f == 0 then search_refusal input else None) ∷ refusal_from p input limit f (first_head input) ∷ [])
+-- why frame f of a stream is refused, with a limit on frames; the search belongs to frame 0
+unfoldable pub stream_refusal : FrameCut → List ℕ → ℕ → ℕ → Option CodeFault
+stream_refusal c input limit f = first_some ((if f == 0 then search_refusal input else None) ∷ refusal_from c input limit f (first_head input) ∷ [])
 
-abbrev pub there_from : Schedule → List ℕ → ℕ → Option ℕ → Bool
-there_from p input f None = false
-there_from p input f (Some head) = has_byte_of p input head f
+abbrev pub there_from : (ℕ → ℕ) → List ℕ → ℕ → Option ℕ → Bool
+there_from slots input f None = false
+there_from slots input f (Some head) = has_byte_of slots input head f
 
 -- whether frame f is there: where the stream has a byte of it
-unfoldable pub is_there : Schedule → List ℕ → ℕ → Bool
-is_there p input f = there_from p input f (first_head input)
+unfoldable pub has_frame : (ℕ → ℕ) → List ℕ → ℕ → Bool
+has_frame slots input f = there_from slots input f (first_head input)
 
 -- ---- what is taken
 
-abbrev pub starts_from : Schedule → List ℕ → ℕ → Option CodeFault → Option ℕ → ℕ
-starts_from p input f None (Some head) = frame_start p head f
-starts_from p input f refusal head = search_end input
+abbrev pub starts_from : (ℕ → ℕ) → List ℕ → ℕ → Option CodeFault → Option ℕ → ℕ
+starts_from slots input f None (Some head) = frame_start slots head f
+starts_from slots input f refusal head = search_end input
 
 -- the bytes of the stream that are taken before a frame; the search belongs to frame 0, and where it finds no head all ends with it
-unfoldable pub code_starts : Schedule → List ℕ → ℕ → ℕ
-code_starts p input f = if f == 0 then 0 else starts_from p input f (search_refusal input) (first_head input)
+unfoldable pub stream_starts : (ℕ → ℕ) → List ℕ → ℕ → ℕ
+stream_starts slots input f = if f == 0 then 0 else starts_from slots input f (search_refusal input) (first_head input)
 
--- ---- what is written
+-- ---- the frames of a plan
+
+-- they are refused where their packets can't be coded
+abbrev pub plan_cut : Schedule → FrameCut
+plan_cut p = record { slots = slots_at p; check = λ f first frame. refusal (at_frame p f).setting (at_frame p f).mode f first frame }
+
+-- why frame f is refused
+abbrev pub code_refusal : Schedule → List ℕ → ℕ → ℕ → Option CodeFault
+code_refusal p input limit f = stream_refusal (plan_cut p) input limit f
+
+-- whether it is there
+abbrev pub is_there : Schedule → List ℕ → ℕ → Bool
+is_there p input f = has_frame (slots_at p) input f
 
 abbrev pub frames_from : Schedule → List ℕ → Option ℕ → FramePackets
 frames_from p input None f x j = []

@@ -1,5 +1,5 @@
 -- Which frames of broadcast packets are not coded, and why.
-use Rattle.std.specs.Prelude.{◌≡◌, ℕ, ◌+◌, ◌/◌, Bool, true, false, not, ◌==◌, Option, Some, None, List, [], ◌∷◌, find, length, slice_index, take, drop, filter, if◌then◌else◌}
+use Rattle.std.specs.Prelude.{◌≡◌, ℕ, ◌+◌, ◌/◌, Bool, true, false, not, ◌==◌, Option, Some, None, List, [], ◌∷◌, find, length, slice_index, take, drop, filter, is_none, if◌then◌else◌}
 use Rattle.std.specs.List.{range_with_len}
 use Rattle.std.specs.Option.{option_map}
 use Rattle.isdbt_base.specs.declared.kinds.Mode.{Mode}
@@ -48,6 +48,10 @@ layer_slots frame x = filter (λ slot. same_layer x (layer_named (information_in
 abbrev pub layer_count : List ℕ → Layer → ℕ
 layer_count frame x = length (layer_slots frame x)
 
+-- the slots that name no layer
+abbrev pub unused_slots : List ℕ → List ℕ
+unused_slots frame = filter (λ slot. is_none (layer_named (information_in frame slot))) (slots_of frame)
+
 -- the causes, of a frame with a number, before whose first packet so many packets stand
 abbrev pub bad_sync : ℕ → List ℕ → Option CodeFault
 bad_sync first frame = option_map (λ slot. BadSync seats.In (first + slot)) (bad_sync_slot frame)
@@ -55,11 +59,15 @@ bad_sync first frame = option_map (λ slot. BadSync seats.In (first + slot)) (ba
 abbrev pub misplaced : ℕ → List ℕ → Option CodeFault
 misplaced number frame = option_map (λ slot. HeadMisplaced number slot) (misplaced_slot frame)
 
+-- the first of these two: the frame is no frame of broadcast packets, whatever it carries
+abbrev pub framing_refusal : ℕ → ℕ → List ℕ → Option CodeFault
+framing_refusal number first frame = first_some (bad_sync first frame ∷ misplaced number frame ∷ [])
+
 abbrev pub wrong_count : Parameters → Mode → ℕ → List ℕ → Layer → Option CodeFault
 wrong_count s mode number frame x =
     if layer_count frame x == number_of (packets_per_frame mode) (layer_of s x) then None else Some (WrongCount number x (layer_count frame x))
 
--- the first of them, in this order
+-- the first of all, in this order
 unfoldable pub refusal : Parameters → Mode → ℕ → ℕ → List ℕ → Option CodeFault
 refusal s mode number first frame = first_some (bad_sync first frame ∷ misplaced number frame
     ∷ wrong_count s mode number frame A ∷ wrong_count s mode number frame B ∷ wrong_count s mode number frame C ∷ [])

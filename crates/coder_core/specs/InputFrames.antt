@@ -21,22 +21,22 @@ first_head input = find (λ i. bears_head (piece 204 input i)) (range_with_len 0
 abbrev pub slots_at : Schedule → ℕ → ℕ
 slots_at p f = slots_per_frame (at_frame p f).mode (at_frame p f).guard
 
--- packets from the first head up to a frame
-unfoldable pub packets_before : Schedule → ℕ → ℕ
-packets_before p f = sum_by (slots_at p) (range_with_len 0 f)
+-- packets from the first head up to a frame, where each frame has so many slots
+unfoldable pub packets_before : (ℕ → ℕ) → ℕ → ℕ
+packets_before slots f = sum_by slots (range_with_len 0 f)
 
 -- the byte of the stream at which a frame begins
-abbrev pub frame_start : Schedule → ℕ → ℕ → ℕ
-frame_start p head f = 204 * (head + packets_before p f)
+abbrev pub frame_start : (ℕ → ℕ) → ℕ → ℕ → ℕ
+frame_start slots head f = 204 * (head + packets_before slots f)
 
 -- the bytes of a frame, fewer where the stream ends in it
-abbrev pub frame_at : Schedule → List ℕ → ℕ → ℕ → List ℕ
-frame_at p input head f = take (204 * slots_at p f) (drop (frame_start p head f) input)
+abbrev pub frame_at : (ℕ → ℕ) → List ℕ → ℕ → ℕ → List ℕ
+frame_at slots input head f = take (204 * slots f) (drop (frame_start slots head f) input)
 
 -- packet j of a layer in the bytes of a frame: that in the slot that is number j of those that name the layer
 unfoldable pub packet_in : List ℕ → Layer → ℕ → List ℕ
 packet_in frame x j = take 188 (piece 204 frame (slice_index (layer_slots frame x) j))
 
--- the packets of all frames
+-- the packets of all frames of a plan
 abbrev pub input_frames : Schedule → List ℕ → ℕ → FramePackets
-input_frames p input head f x j = packet_in (frame_at p input head f) x j
+input_frames p input head f x j = packet_in (frame_at (slots_at p) input head f) x j

@@ -7,5 +7,6 @@ pub mod FrameSteps
 pub mod InputFrames
 pub mod LayerPart
 pub mod SentCells
+pub mod ShownFrames
 pub mod Symbols
 pub mod UsedLayers

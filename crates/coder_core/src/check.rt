@@ -2,7 +2,7 @@
 
 ghost use Rattle.std.specs.Prelude.{◌≡◌, ◌+◌, ◌*◌, ◌/◌, ◌≤◌, ◌^◌, None, Some, IfOk, length, MatchResult};
 ghost use Rattle.bts_info.specs.Information.{fields_of, has_head, layer_named};
-ghost use Rattle.coder_core.specs.FrameChecks.{bad_sync_slot, misplaced_slot, layer_count, bad_sync, misplaced, wrong_count, refusal, information_in, same_layer, CanCode};
+ghost use Rattle.coder_core.specs.FrameChecks.{bad_sync_slot, misplaced_slot, layer_count, bad_sync, misplaced, framing_refusal, wrong_count, refusal, information_in, same_layer, CanCode};
 
 use crate::fault::CodeFault;
 use bts_info::{Info, layer_of, read};
@@ -19,7 +19,7 @@ pub fn slots_of(frame: &[u8]) -> u32
 }
 
 /// The information in a slot of a frame.
-fn info_in(frame: &[u8], slot: u32) -> Info
+pub fn info_in(frame: &[u8], slot: u32) -> Info
     requires { 204 * slot + 204 ≤ length frame.now }
     ensures { result ≡ fields_of (information_in frame.now slot) }
 {
@@ -85,7 +85,7 @@ fn misplaced_slot(frame: &[u8]) -> Option<u32>
 }
 
 /// How many slots name a layer.
-fn layer_count(frame: &[u8], layer: Layer) -> u32
+pub fn layer_count(frame: &[u8], layer: Layer) -> u32
     requires { length frame.now ≤ 2 ^ 32 }
     ensures { result ≡ layer_count frame.now layer }
 {
@@ -123,6 +123,15 @@ fn misplaced(number: u32, frame: &[u8]) -> Option<CodeFault>
     })
 }
 
+/// Why a frame is no frame of broadcast packets, whatever it carries: a packet without sync byte, or a misplaced head flag.
+pub fn framing_fault(number: u32, first_packet: u64, frame: &[u8]) -> Option<CodeFault>
+    requires first { first_packet ≤ 2 ^ 60 }
+    requires size { length frame.now ≤ 2 ^ 32 }
+    ensures { result ≡ framing_refusal number first_packet frame.now }
+{
+    bad_sync(first_packet, frame).or(misplaced(number, frame))
+}
+
 /// The cause in the count of a layer's packets.
 fn wrong_count(
     setting: &Setting,
@@ -158,8 +167,7 @@ fn cause(
     requires size { length frame.now ≤ 2 ^ 32 }
     ensures { result ≡ refusal setting.now mode number first_packet frame.now }
 {
-    bad_sync(first_packet, frame)
-        .or(misplaced(number, frame))
+    framing_fault(number, first_packet, frame)
         .or(wrong_count(setting, mode, number, frame, Layer::A))
         .or(wrong_count(setting, mode, number, frame, Layer::B))
         .or(wrong_count(setting, mode, number, frame, Layer::C))

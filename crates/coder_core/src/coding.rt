@@ -12,18 +12,12 @@ ghost use Rattle.coder_core.specs.FrameSteps.{IsOfFrame, StandsAt};
 use crate::buffers::CodeBuffers;
 use crate::coder::Coder;
 use crate::fault::CodeFault;
-use crate::frames::{FramePlace, Sending, code_frame, slots_at};
+use crate::frames::{Sending, code_frame, slots_at};
+use crate::reading::{FramePlace, FrameSpan, end_at_limit};
 use crate::search::find_head;
-use edge_io::{Failed, Seat, Shelf, Sink, ends};
+use edge_io::{Shelf, Sink};
 use isdbt_base::{BROADCAST_BYTES, Plan, Writing, put};
 use std::alloc::Global;
-
-/// Which frames of an input are coded: from the packet of the first head on, at most so many.
-#[derive(Clone, Copy)]
-struct FrameSpan {
-    head: u32,
-    limit: u32,
-}
 
 /// The frames from the first head on, whose packet stands at the front of the buffer, one after another; answers how many
 /// there are. The coder is that of frame 0, and has seen no frame.
@@ -66,11 +60,7 @@ fn code_frames<H: Shelf, K: Sink>(
         first_packet += u64::from(slots_at(sending.plan, number));
         held = 0;
     }
-    match ends(shelf, Seat::In) {
-        Ok(true) => Ok(span.limit),
-        Ok(false) => Err(CodeFault::TooLong),
-        Err(Failed) => Err(CodeFault::ReadFault(Seat::In)),
-    }
+    end_at_limit(span.limit, shelf)
 }
 
 /// Codes a stream with the coder of frame 0, which has seen no frame.

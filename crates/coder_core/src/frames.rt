@@ -1,4 +1,4 @@
-//! The frames of a stream of broadcast packets, one after another: read, checked, coded and written.
+//! The frames of a plan in a stream of broadcast packets, one after another: read, checked, coded and written.
 
 ghost use Rattle.std.specs.Prelude.{◌≡◌, ℕ, List, ◌++◌, ◌+◌, ◌*◌, ◌%◌, ◌==◌, ◌≤◌, ◌<◌, ◌^◌, true, false, length, take, vec_items, IfOk, OnOk, OnErr};
 ghost use Rattle.std.specs.declared.option.Option.{Option};
@@ -17,13 +17,14 @@ ghost use Rattle.coder_core.specs.SentCells.{epoch_frame_cells, frame_size, plan
 ghost use Rattle.coder_core.specs.Coder.{mode_of, guard_of, setting_of, IsFrameOf, StandsFor};
 ghost use Rattle.coder_core.specs.Answers.{code_kind};
 ghost use Rattle.coder_core.specs.Buffers.{HasRoom};
-ghost use Rattle.coder_core.specs.FrameSteps.{Progress, TakeAnswer, IsOfFrame, StandsAt, AtFrame, FrameAnswer};
+ghost use Rattle.coder_core.specs.FrameSteps.{Progress, Taken, StepAnswer, IsOfFrame, StandsAt, coding_run, AtFrame};
 
 use crate::buffers::CodeBuffers;
 use crate::check::check_frame;
 use crate::coder::Coder;
 use crate::fault::CodeFault;
-use edge_io::{Failed, Seat, Shelf, Sink, fill_behind, write_whole};
+use crate::reading::{FramePlace, read_frame};
+use edge_io::{Failed, Shelf, Sink, write_whole};
 use isdbt_base::{
     BROADCAST_BYTES, NoMemory, Plan, SYMBOLS, Writing, head_of, put, slots, symbol_size,
 };
@@ -37,17 +38,6 @@ pub struct Sending<'a> {
     pub how: Writing,
 }
 
-/// Where a frame of the input stands.
-#[derive(Clone, Copy)]
-pub struct FramePlace {
-    /// Its number.
-    pub number: u32,
-    /// The packets of the input before its first.
-    pub first_packet: u64,
-    /// How many of its bytes stand in the buffer already.
-    pub held: usize,
-}
-
 /// Slots of a frame of the plan.
 pub fn slots_at(plan: &Plan, frame: u32) -> u32
     ensures value { result ≡ slots_at plan.now frame }
@@ -59,7 +49,7 @@ pub fn slots_at(plan: &Plan, frame: u32) -> u32
 }
 
 /// The TMCC word of a frame of the plan.
-fn word_at(plan: &Plan, frame: u32) -> [bool; 204]
+pub fn word_at(plan: &Plan, frame: u32) -> [bool; 204]
     ensures { result ≡ plan_word plan.now frame }
 {
     let at = plan.at(frame);
@@ -87,26 +77,20 @@ fn take_frame<H: Shelf>(
     ensures still_open { H.is_open shelf.new ≡ H.is_open shelf.old }
     ensures codable { IfOk result (λ there. there ≡ true
         → CanCode (at_frame plan.now place.number).setting (at_frame plan.now place.number).mode (take (204 * slots_at plan.now place.number) buffer.new)) }
-    ensures answer { (how : Writing) (input : List ℕ) (limit head : ℕ) (before now : Option (List ℕ)) → place.number < limit → place.first_packet ≡ head + packets_before plan.now place.number
-        → Progress how plan.now input limit head place.number place.held buffer.old (H.left shelf.old seats.In) before now
-        → TakeAnswer how plan.now input limit head place.number (take (204 * slots_at plan.now place.number) buffer.new) (H.left shelf.new seats.In) before now result }
+    ensures answer { (how : Writing) (input : List ℕ) (limit head : ℕ) (before now : Option (List ℕ)) → place.number < limit → place.first_packet ≡ head + packets_before (slots_at plan.now) place.number
+        → Progress (coding_run how plan.now input limit head) place.number place.held buffer.old (H.left shelf.old seats.In) before now
+        → StepAnswer (coding_run how plan.now input limit head) place.number
+        (Taken (coding_run how plan.now input limit head) place.number (take (204 * slots_at plan.now place.number) buffer.new) (H.left shelf.new seats.In) before now)
+        (H.left shelf.new seats.In) before now result }
     ensures cause { ReadingCause code_kind (H.faults shelf.old) (H.faults shelf.new) result }
 {
     let at = plan.at(place.number);
     let size = BROADCAST_BYTES * slots_at(plan, place.number) as usize;
     let frame = &mut buffer[..size];
-    let count = match fill_behind(shelf, Seat::In, place.held, frame) {
-        Ok(count) => count,
-        Err(Failed) => return Err(CodeFault::ReadFault(Seat::In)),
-    };
-    if count == 0 {
-        return Ok(false);
-    }
-    if count < size {
-        return Err(CodeFault::Truncated {
-            seat: Seat::In,
-            over: count as u32,
-        });
+    match read_frame(place.held, frame, shelf) {
+        Ok(true) => {}
+        Ok(false) => return Ok(false),
+        Err(fault) => return Err(fault),
     }
     match check_frame(
         &at.setting,
@@ -213,9 +197,11 @@ pub fn code_frame<H: Shelf, K: Sink>(
     ensures still_open { H.is_open shelf.new ≡ H.is_open shelf.old }
     ensures kept { HasRoom sending.entry.plan.now buffers.new }
     ensures next_coder { IfOk result (λ there. there ≡ true → begins_later sending.entry.plan.now (place.number + 1) ≡ false → IsOfFrame coder.new sending.entry.plan.now (place.number + 1)) }
-    ensures answer { (input : List ℕ) (limit head : ℕ) (first : Option (List ℕ)) → place.number < limit → place.first_packet ≡ head + packets_before sending.entry.plan.now place.number
+    ensures answer { (input : List ℕ) (limit head : ℕ) (first : Option (List ℕ)) → place.number < limit → place.first_packet ≡ head + packets_before (slots_at sending.entry.plan.now) place.number
         → AtFrame sending.entry.how sending.entry.plan.now input limit head place.number place.held coder.old (vec_items buffers.old.frame) (H.left shelf.old seats.In) first (K.written sink.old)
-        → FrameAnswer sending.entry.how sending.entry.plan.now input limit head place.number coder.new (vec_items buffers.new.frame) (H.left shelf.new seats.In) first (K.written sink.new) result }
+        → StepAnswer (coding_run sending.entry.how sending.entry.plan.now input limit head) place.number
+        (AtFrame sending.entry.how sending.entry.plan.now input limit head (place.number + 1) 0 coder.new (vec_items buffers.new.frame) (H.left shelf.new seats.In) first (K.written sink.new))
+        (H.left shelf.new seats.In) first (K.written sink.new) result }
     ensures cause { LoneCause code_kind (H.faults shelf.old) (H.faults shelf.new) (K.faults sink.old) (K.faults sink.new) result }
     ensures sink_room { K.room sink.new ≡ K.room sink.old }
     ensures reached { AnswerRoom code_kind (K.room sink.old) (K.written sink.new) result }

@@ -22,7 +22,9 @@ fn packet_of(frame: &[u8], slot: u32) -> Packet
     }
 }
 
-/// Writes the packets of a layer in a frame, in the order of their slots.
+/// Gathers the packets of a layer out of a frame. The frame is whole broadcast packets of 204 bytes, at most 2^32 bytes, and
+/// each begins with the sync byte. `packets` has a place for each slot that names the layer, as many as `check_frame`
+/// accepts; behind the call they hold the transport packets of these slots, in the order of the slots.
 pub fn gather(frame: &[u8], layer: Layer, packets: &mut [Packet])
     requires size { length frame.now ≤ 2 ^ 32 }
     requires sync { bad_sync_slot frame.now ≡ None }

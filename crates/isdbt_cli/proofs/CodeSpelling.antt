@@ -8,7 +8,8 @@ use Rattle.setting_words.specs.SettingWords.{Word}
 use Rattle.isdbt_cli.specs.Parsing.{Unread, Reads, BeginsWith, IsStuck, Follows, SpellsPlan, HasNoFrame, SpellLast}
 use Rattle.isdbt_cli.proofs.Stuck.{stuck_behind}
 use Rattle.isdbt_cli.proofs.Transmissions.{same_tail}
-use Rattle.isdbt_cli.proofs.PlanLines.{input_words, code_words, spell_code, some_inputs, line_follows, follows_line, line_behind, inputs_behind, inputs_next}
+use Rattle.isdbt_cli.proofs.CommandWords.{input_words, code_words, spell_code}
+use Rattle.isdbt_cli.proofs.PlanLines.{some_inputs, line_follows, follows_line, line_behind, inputs_behind, inputs_next}
 
 -- ---- behind a plan
 

@@ -2,12 +2,16 @@ pub mod Numbers
 pub mod LastWords
 pub mod Stuck
 pub mod Transmissions
+pub mod CommandWords
 pub mod PlanSpelling
 pub mod SwitchStuck
 pub mod PlanLines
 pub mod Spelling
 pub mod CodeSpelling
+pub mod CellsSpelling
 pub mod ReceiveSpelling
+pub mod ShowSpelling
+pub mod SampleSpelling
 pub mod OnePlace
 pub mod Rows
 pub mod NamedInputs

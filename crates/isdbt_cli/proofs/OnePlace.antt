@@ -1,16 +1,21 @@
 -- Words are of one command at most, and have one place of a fault, or are a command's.
-use Rattle.std.proofs.Common.{◌≡◌, ℕ, ◌+◌, ◌<◌, ◌≤◌, true, false, List, [], ◌++◌, length, take, drop, refl, sym, ap, ◌∙◌, subst, arith, take-append-drop, append_assoc, inl, inr}
-use Rattle.std.specs.Prelude.{codes, is_some}
+use Rattle.std.proofs.Common.{◌≡◌, ℕ, ◌+◌, ◌<◌, ◌≤◌, ◌^◌, true, false, List, [], ◌∷◌, ◌++◌, length, take, drop, refl, sym, ap, ◌∙◌, subst, arith, take-append-drop, append_assoc, inl, inr}
+use Rattle.std.specs.Prelude.{codes, decimal, is_some}
+use Rattle.std.proofs.lemmas.Fmt.{decimal_injective}
 use Rattle.std.proofs.lemmas.List.{take-take, take_all, append-nil, append_cancel_left}
 use Rattle.std.proofs.lemmas.Bool.{cases_lt}
 use Rattle.isdbt_base.specs.Plans.{Schedule}
-use Rattle.isdbt_cli.specs.CommandLines.{part_words, Command, remux, code, receive, Spells, CanGoOn, IsFaultAt}
+use Rattle.isdbt_cli.specs.CommandLines.{form_words, part_words, Command, remux, code, receive, show_bts, show_cells, sample, Spells, CanGoOn, IsFaultAt}
 use Rattle.setting_words.specs.SettingWords.{Word}
-use Rattle.isdbt_cli.proofs.Transmissions.{same_head, same_tail}
-use Rattle.isdbt_cli.proofs.PlanLines.{names_words, code_words, remux_spelled, code_spelled, receive_spelled, remux_or_code, remux_or_receive, code_or_receive, remux_line, code_line, same_line}
+use Rattle.isdbt_cli.proofs.Transmissions.{same_head, same_tail, mode_word-injective, guard_word-injective}
+use Rattle.isdbt_cli.proofs.CommandWords.{names_words, code_words, receive_words, bts_words, cells_words, remux_spelled, code_spelled, receive_spelled, bts_spelled, cells_spelled, sample_spelled}
+use Rattle.isdbt_cli.proofs.PlanLines.{remux_line, code_line, line_of, same_line}
 use Rattle.isdbt_cli.proofs.LastWords.{told_last-injective}
-use Rattle.isdbt_cli.proofs.ReceiveSpelling.{same_form}
-use Rattle.isdbt_cli.proofs.Spelling.{same_names, name_of, first_word}
+use Rattle.isdbt_cli.proofs.CellsSpelling.{same_form}
+use Rattle.isdbt_cli.proofs.ReceiveSpelling.{received}
+use Rattle.isdbt_cli.proofs.ShowSpelling.{bts_followed, cells_shown}
+use Rattle.isdbt_cli.proofs.SampleSpelling.{followed}
+use Rattle.isdbt_cli.proofs.Spelling.{same_names}
 
 -- ---- the place is one
 
@@ -48,34 +53,51 @@ no_place words c p s f =
 
 -- ---- the command is one
 
--- commands of the same words have the same first word
-same_first : (words : List Word) (c d : Command) → Spells words c → Spells words d → name_of c ≡ name_of d
-same_first words c d s t = same_head (sym (first_word c words s.spelled).1 ∙ (first_word d words t.spelled).1)
+-- the words of the other command are those
+moved : (words ws : List Word) (d : Command) → words ≡ ws → Spells words d → Spells ws d
+moved words ws d e t = subst (λ (x : List Word). Spells x d) e t
 
 pub one_command : (words : List Word) (c d : Command) → Spells words c → Spells words d → c ≡ d
-one_command words (remux p a b c) (remux q a' b' c') s t =
+one_command words (remux p a b c) d s t =
     let k = remux_spelled p a b c words s.spelled in
-    let l = remux_spelled q a' b' c' words t.spelled in
     let line : List Word = k.0 ++ names_words a b c in
-    let same = same_line false line (remux_line p a b c k.0 line s.command k.1 refl) (remux_line q a' b' c' l.0 line t.command l.1 (same_tail (sym k.2 ∙ l.2))) in
-    let used_b : is_some b ≡ is_some b' = s.command.b_used ∙ ap (λ (x : Schedule). is_some x.first.setting.b) same.0 ∙ sym t.command.b_used in
-    let used_c : is_some c ≡ is_some c' = s.command.c_used ∙ ap (λ (x : Schedule). is_some x.first.setting.c) same.0 ∙ sym t.command.c_used in
-    let names = same_names a a' b b' c c' used_b used_c same.1 in
-    ap (λ x. remux x a b c) same.0 ∙ ap (λ x. remux q x b c) names.0 ∙ ap (λ x. remux q a' x c) names.1 ∙ ap (λ x. remux q a' b' x) names.2
-one_command words (remux p a b c) (code q how name) s t = absurd (remux_or_code (same_first words (remux p a b c) (code q how name) s t))
-one_command words (remux p a b c) (receive form partial name) s t = absurd (remux_or_receive (same_first words (remux p a b c) (receive form partial name) s t))
-one_command words (code p how name) (remux q a b c) s t = absurd (remux_or_code (same_first words (remux q a b c) (code p how name) t s))
-one_command words (code p how name) (receive form partial name') s t = absurd (code_or_receive (same_first words (code p how name) (receive form partial name') s t))
-one_command words (receive form partial name) (remux q a b c) s t = absurd (remux_or_receive (same_first words (remux q a b c) (receive form partial name) t s))
-one_command words (receive form partial name) (code q how name') s t = absurd (code_or_receive (same_first words (code q how name') (receive form partial name) t s))
-one_command words (receive form partial name) (receive form' partial' name') s t =
-    let same = same_form form form' name name' (part_words partial) (part_words partial') (same_tail (sym (receive_spelled form partial name words s.spelled) ∙ receive_spelled form' partial' name' words t.spelled)) in
-    ap (λ x. receive x partial name) same.0 ∙ ap (λ x. receive form' x name) (told_last-injective (codes "partial") partial partial' same.2) ∙ ap (λ x. receive form' partial' x) same.1
-one_command words (code p how name) (code q how' name') s t =
+    let l = line_of false line (d, moved words (codes "remux" ∷ line) d k.2 t) in
+    let n = l.0.inputs in
+    let same = same_line false line (remux_line p a b c k.0 line s.command k.1 refl) l.0 in
+    let used_b : is_some b ≡ is_some n.b = s.command.b_used ∙ ap (λ (x : Schedule). is_some x.first.setting.b) same.0 ∙ sym n.b_used in
+    let used_c : is_some c ≡ is_some n.c = s.command.c_used ∙ ap (λ (x : Schedule). is_some x.first.setting.c) same.0 ∙ sym n.c_used in
+    let names = same_names a n.a b n.b c n.c used_b used_c (same.1 ∙ n.words_are) in
+    ap (λ x. remux x a b c) same.0 ∙ ap (λ x. remux l.0.p x b c) names.0 ∙ ap (λ x. remux l.0.p n.a x c) names.1 ∙ ap (λ x. remux l.0.p n.a n.b x) names.2 ∙ sym l.1
+one_command words (code p how name) d s t =
     let k = code_spelled p how name words s.spelled in
-    let l = code_spelled q how' name' words t.spelled in
     let line : List Word = k.0 ++ code_words how name in
-    let same = same_line true line (code_line p how name k.0 line s.command k.1 refl) (code_line q how' name' l.0 line t.command l.1 (same_tail (sym k.2 ∙ l.2))) in
-    let versions : how.v2 ≡ how'.v2 = told_last-injective (codes "v2") how.v2 how'.v2 (same_tail same.1) in
-    let names : name ≡ name' = append_cancel_left (codes "IN=") name name' (same_head same.1) in
-    ap (λ x. code x how name) same.0 ∙ ap (λ x. code q (record { v2 = x }) name) versions ∙ ap (λ x. code q how' x) names
+    let l = line_of true line (d, moved words (codes "code" ∷ line) d k.2 t) in
+    let n = l.0.inputs in
+    let same = same_line true line (code_line p how name k.0 line s.command k.1 refl) l.0 in
+    let behind = same.1 ∙ n.words_are in
+    let versions : how.v2 ≡ n.how.v2 = told_last-injective (codes "v2") how.v2 n.how.v2 (same_tail behind) in
+    let names : name ≡ n.name = append_cancel_left (codes "IN=") name n.name (same_head behind) in
+    ap (λ x. code x how name) same.0 ∙ ap (λ x. code l.0.p (record { v2 = x }) name) versions ∙ ap (λ x. code l.0.p n.how x) names ∙ sym l.1
+one_command words (receive form partial name) d s t =
+    let line : List Word = form_words form ++ receive_words partial name in
+    let r = received line (d, moved words (codes "receive" ∷ line) d (receive_spelled form partial name words s.spelled) t) in
+    let same = same_form form r.form name r.name (part_words partial) (part_words r.partial) r.words_are in
+    ap (λ x. receive x partial name) same.0 ∙ ap (λ x. receive r.form x name) (told_last-injective (codes "partial") partial r.partial same.2) ∙ ap (λ x. receive r.form r.partial x) same.1 ∙ sym r.is
+one_command words (show_bts mode guard name) d s t =
+    let line : List Word = bts_words mode guard name in
+    let r = bts_followed line (d, moved words (codes "show" ∷ codes "bts" ∷ line) d (bts_spelled mode guard name words s.spelled) t) in
+    let modes : mode ≡ r.mode = mode_word-injective mode r.mode (same_head r.words_are) in
+    let guards : guard ≡ r.guard = guard_word-injective guard r.guard (same_head (same_tail r.words_are)) in
+    let names : name ≡ r.name = append_cancel_left (codes "IN=") name r.name (same_head (same_tail (same_tail r.words_are))) in
+    ap (λ x. show_bts x guard name) modes ∙ ap (λ x. show_bts r.mode x name) guards ∙ ap (λ x. show_bts r.mode r.guard x) names ∙ sym r.is
+one_command words (show_cells form name) d s t =
+    let line : List Word = cells_words form name in
+    let r = cells_shown line (d, moved words (codes "show" ∷ codes "cells" ∷ line) d (cells_spelled form name words s.spelled) t) in
+    let same = same_form form r.form name r.name [] [] r.words_are in
+    ap (λ x. show_cells x name) same.0 ∙ ap (λ x. show_cells r.form x) same.1 ∙ sym r.is
+one_command words (sample number) d s t =
+    let line : List Word = decimal number ∷ [] in
+    let r = followed line (d, moved words (codes "sample" ∷ line) d (sample_spelled number words s.spelled) t) in
+    let few : number < 2 ^ 64 = (let h = s.command in omega (arith, h)) in
+    let few' : r.number < 2 ^ 64 = (let h = r.few in omega (arith, h)) in
+    ap sample (decimal_injective number r.number few few' (same_head r.words_are)) ∙ sym r.is

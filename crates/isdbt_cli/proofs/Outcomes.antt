@@ -13,12 +13,14 @@ use Rattle.coder_core.specs.declared.fault.CodeFault.TheVariants as code_faults
 use Rattle.coder_core.specs.Answers.{code_kind}
 use Rattle.seg_receiver.specs.declared.fault.ReceiveFault.TheVariants as receive_faults
 use Rattle.seg_receiver.specs.ReceiveAnswers.{receive_kind}
+use Rattle.sample.specs.declared.fault.SampleFault.TheVariants as sample_faults
+use Rattle.sample.specs.Answers.{sample_kind}
 use Rattle.isdbt_cli.specs.declared.fault.RunFault.{RunFault}
 use Rattle.isdbt_cli.specs.declared.fault.RunFault.TheVariants.{Usage, BadSync, Truncated, HeadMisplaced, NoHead, WrongCount, BadTmcc, Unannounced, NotPartial, OpenFault, ReadFault, WriteFault, TooLong, NoMemory, BadHead}
 use Rattle.isdbt_cli.specs.declared.fault.Outcome.{Outcome}
 use Rattle.isdbt_cli.specs.declared.fault.Outcome.TheVariants.{Done, Fault}
 use Rattle.setting_words.specs.SettingWords.{Word}
-use Rattle.isdbt_cli.specs.Faults.{run_fault_of, run_fault_of_code, run_fault_of_receive}
+use Rattle.isdbt_cli.specs.Faults.{run_fault_of, run_fault_of_code, run_fault_of_receive, run_fault_of_sample}
 use Rattle.isdbt_cli.specs.Run.{Names, AreSeated, SeatsAfter, outcome_of, EndsSo, OpenFailed, NothingRose}
 
 -- ---- the faults of the engines among those of the program
@@ -65,6 +67,10 @@ receive_keeps (receive_faults.ReadFault seat) = refl
 receive_keeps receive_faults.WriteFault = refl
 receive_keeps receive_faults.TooLong = refl
 receive_keeps receive_faults.NoMemory = refl
+
+pub sample_keeps : KeepsKind run_fault_of_sample sample_kind
+sample_keeps sample_faults.WriteFault = refl
+sample_keeps sample_faults.NoMemory = refl
 
 -- one kind of fault is want of memory alone
 memory_fault : (fault : RunFault) → engine_kind fault ≡ Some no_memory → fault ≡ NoMemory

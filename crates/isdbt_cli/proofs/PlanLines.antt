@@ -1,85 +1,24 @@
 -- Lines with a plan: what may follow the words of a plan's front.
-use Rattle.std.proofs.Common.{◌≡◌, ◌≢◌, ℕ, ◌+◌, ◌<◌, Bool, true, false, List, [], ◌∷◌, ◌++◌, length, take, None, Some, refl, sym, ap, ◌∙◌, subst, arith, append_assoc, lit≤}
+use Rattle.std.proofs.Common.{◌≡◌, ℕ, ◌+◌, ◌<◌, Bool, true, false, List, [], ◌∷◌, ◌++◌, length, take, None, Some, refl, sym, ap, ◌∙◌, subst, arith, append_assoc, lit≤}
 use Rattle.std.specs.Prelude.{codes, is_some}
-use Rattle.std.specs.Str.{bytes_eq}
 use Rattle.std.specs.declared.option.Option.{Option}
 use Rattle.std.proofs.lemmas.List.{append-nil, length-append}
 use Rattle.isdbt_base.specs.Parameters.{Parameters, IsAccepted}
 use Rattle.isdbt_base.specs.Plans.{Transmission, Switch, Schedule, IsPlan, RisesFrom, KeepsMode}
 use Rattle.isdbt_base.specs.declared.stream.Writing.{Writing}
-use Rattle.isdbt_base.specs.declared.stream.Form.{Form}
 use Rattle.isdbt_base.specs.Epochs.{last_sent, last_start}
 use Rattle.isdbt_base.specs.Switching.{with_switch}
 use Rattle.isdbt_base.proofs.PlanEpochs.{plan-append}
-use Rattle.isdbt_cli.specs.CommandLines.{transmission_words, frame_word, switch_words, SpellSwitches, SpellPlan, other_input_words, version_words, form_words, part_words, IsName, IsNameIfGiven, remux}
+use Rattle.isdbt_cli.specs.CommandLines.{transmission_words, frame_word, switch_words, SpellSwitches, SpellPlan, IsName, IsNameIfGiven, Command, remux}
 use Rattle.setting_words.specs.SettingWords.{Word}
-use Rattle.isdbt_cli.specs.CommandLines.{code, receive, SpellCommand, IsRemux, IsCode}
-use Rattle.isdbt_cli.specs.Parsing.{Unread, Reads, IsStuck, Follows, named, StartsWith, Change, change_words, IsChange, IsLater, AddsSwitch, EndsPlan, ReadsSwitch, IsStuckInSwitch}
+use Rattle.isdbt_cli.specs.CommandLines.{code, receive, show_bts, show_cells, sample, SpellCommand, IsRemux, IsCode}
+use Rattle.isdbt_cli.specs.Parsing.{Unread, Reads, IsStuck, Follows, StartsWith, Change, change_words, IsChange, IsLater, AddsSwitch, EndsPlan, ReadsSwitch, IsStuckInSwitch}
 use Rattle.isdbt_cli.specs.Parsing.{SpellsPlan, ReadsPlan, HasNoFrame, planned}
 use Rattle.isdbt_cli.proofs.Stuck.{stuck_piece, reads_both}
 use Rattle.isdbt_cli.proofs.SwitchStuck.{Changes}
-use Rattle.isdbt_cli.proofs.Transmissions.{Sent, some_name, same_head, same_tail, same_transmission}
+use Rattle.isdbt_cli.proofs.CommandWords.{names_words, code_words, spell_remux, remux_spelled, spell_code, code_spelled, unlike, other_command}
+use Rattle.isdbt_cli.proofs.Transmissions.{Sent, some_name, same_tail, same_transmission}
 use Rattle.isdbt_cli.proofs.PlanSpelling.{begins_at, go_on, spell_more, front_plan}
-
--- ---- the words of a command
-
-named-b : (o : Option Word) → other_input_words (codes "B") o ≡ named (codes "B=") o
-named-b None = refl
-named-b (Some name) = refl
-
-named-c : (o : Option Word) → other_input_words (codes "C") o ≡ named (codes "C=") o
-named-c None = refl
-named-c (Some name) = refl
-
-abbrev pub names_words : Word → Option Word → Option Word → List Word
-names_words a b c = (codes "A=" ++ a) ∷ (named (codes "B=") b ++ named (codes "C=") c)
-
-abbrev pub input_words : Word → List Word
-input_words name = (codes "IN=" ++ name) ∷ []
-
-abbrev pub code_words : Writing → Word → List Word
-code_words how name = (codes "IN=" ++ name) ∷ version_words how.v2
-
--- and a receiving's: its input, and whether reception is partial
-abbrev pub receive_words : Bool → Word → List Word
-receive_words partial name = (codes "IN=" ++ name) ∷ part_words partial
-
-pub spell_remux : (p : Schedule) (a : Word) (b c : Option Word) (plan : List Word) → SpellPlan p plan → SpellCommand (remux p a b c) (codes "remux" ∷ (plan ++ names_words a b c))
-unfolding SpellCommand
-spell_remux p a b c plan s = (plan, s, rw (← named-b b, ← named-c c) refl)
-
-pub remux_spelled : (p : Schedule) (a : Word) (b c : Option Word) (words : List Word) → SpellCommand (remux p a b c) words
-    → (plan : List Word) × SpellPlan p plan × (words ≡ codes "remux" ∷ (plan ++ names_words a b c))
-unfolding SpellCommand
-remux_spelled p a b c words s = (s.0, s.1, s.2 ∙ rw (← named-b b, ← named-c c) refl)
-
-pub spell_code : (p : Schedule) (how : Writing) (name : Word) (plan : List Word) → SpellPlan p plan
-    → SpellCommand (code p how name) (codes "code" ∷ (plan ++ code_words how name))
-unfolding SpellCommand
-spell_code p how name plan s = (plan, s, refl)
-
-pub code_spelled : (p : Schedule) (how : Writing) (name : Word) (words : List Word) → SpellCommand (code p how name) words
-    → (plan : List Word) × SpellPlan p plan × (words ≡ codes "code" ∷ (plan ++ code_words how name))
-unfolding SpellCommand
-code_spelled p how name words s = s
-
-pub spell_receive : (form : Form) (partial : Bool) (name : Word) → SpellCommand (receive form partial name) (codes "receive" ∷ (form_words form ++ receive_words partial name))
-unfolding SpellCommand
-spell_receive form partial name = refl
-
-pub receive_spelled : (form : Form) (partial : Bool) (name : Word) (words : List Word) → SpellCommand (receive form partial name) words → words ≡ codes "receive" ∷ (form_words form ++ receive_words partial name)
-unfolding SpellCommand
-receive_spelled form partial name words s = s
-
--- the commands differ in their first word
-pub remux_or_code : codes "remux" ≢ codes "code"
-remux_or_code e = absurd (let bad : true ≡ false = ap (bytes_eq (codes "remux")) e in cc)
-
-pub remux_or_receive : codes "remux" ≢ codes "receive"
-remux_or_receive e = absurd (let bad : true ≡ false = ap (bytes_eq (codes "remux")) e in cc)
-
-pub code_or_receive : codes "code" ≢ codes "receive"
-code_or_receive e = absurd (let bad : true ≡ false = ap (bytes_eq (codes "code")) e in cc)
 
 -- ---- lines with a plan
 
@@ -178,13 +117,27 @@ code_line p how name read words r s e = record {
   words_are = e;
 }
 
+-- the command of such a line
+abbrev pub line_command : (coded : Bool) {words : List Word} → PlanLine coded words → Command
+line_command false l = remux l.p l.inputs.a l.inputs.b l.inputs.c
+line_command true l = code l.p l.inputs.how l.inputs.name
+
+pub line_of : (coded : Bool) (words : List Word) (f : Follows (planned coded) words) → (l : PlanLine coded words) × (f.0 ≡ line_command coded l)
+line_of false words (code p how name, s) = absurd (other_command (code p how name) (codes "remux") words (unlike (codes "remux") (codes "code") refl refl) s.spelled)
+line_of false words (receive form partial name, s) = absurd (other_command (receive form partial name) (codes "remux") words (unlike (codes "remux") (codes "receive") refl refl) s.spelled)
+line_of false words (show_bts mode guard name, s) = absurd (other_command (show_bts mode guard name) (codes "remux") words (unlike (codes "remux") (codes "show") refl refl) s.spelled)
+line_of false words (show_cells form name, s) = absurd (other_command (show_cells form name) (codes "remux") words (unlike (codes "remux") (codes "show") refl refl) s.spelled)
+line_of false words (sample number, s) = absurd (other_command (sample number) (codes "remux") words (unlike (codes "remux") (codes "sample") refl refl) s.spelled)
+line_of false words (remux p a b c, s) = (let k = remux_spelled p a b c (codes "remux" ∷ words) s.spelled in (remux_line p a b c k.0 words s.command k.1 (same_tail k.2), refl))
+line_of true words (remux p a b c, s) = absurd (other_command (remux p a b c) (codes "code") words (unlike (codes "code") (codes "remux") refl refl) s.spelled)
+line_of true words (receive form partial name, s) = absurd (other_command (receive form partial name) (codes "code") words (unlike (codes "code") (codes "receive") refl refl) s.spelled)
+line_of true words (show_bts mode guard name, s) = absurd (other_command (show_bts mode guard name) (codes "code") words (unlike (codes "code") (codes "show") refl refl) s.spelled)
+line_of true words (show_cells form name, s) = absurd (other_command (show_cells form name) (codes "code") words (unlike (codes "code") (codes "show") refl refl) s.spelled)
+line_of true words (sample number, s) = absurd (other_command (sample number) (codes "code") words (unlike (codes "code") (codes "sample") refl refl) s.spelled)
+line_of true words (code p how name, s) = (let k = code_spelled p how name (codes "code" ∷ words) s.spelled in (code_line p how name k.0 words s.command k.1 (same_tail k.2), refl))
+
 pub follows_line : (coded : Bool) (words : List Word) → Follows (planned coded) words → PlanLine coded words
-follows_line false words (code p how name, s) = absurd (remux_or_code (same_head (code_spelled p how name (codes "remux" ∷ words) s.spelled).2))
-follows_line false words (receive form partial name, s) = absurd (remux_or_receive (same_head (receive_spelled form partial name (codes "remux" ∷ words) s.spelled)))
-follows_line false words (remux p a b c, s) = (let k = remux_spelled p a b c (codes "remux" ∷ words) s.spelled in remux_line p a b c k.0 words s.command k.1 (same_tail k.2))
-follows_line true words (remux p a b c, s) = absurd (remux_or_code (sym (same_head (remux_spelled p a b c (codes "code" ∷ words) s.spelled).2)))
-follows_line true words (receive form partial name, s) = absurd (code_or_receive (same_head (receive_spelled form partial name (codes "code" ∷ words) s.spelled)))
-follows_line true words (code p how name, s) = (let k = code_spelled p how name (codes "code" ∷ words) s.spelled in code_line p how name k.0 words s.command k.1 (same_tail k.2))
+follows_line coded words f = (line_of coded words f).0
 
 -- ---- behind a plan's front
 

@@ -1,6 +1,7 @@
 -- What the answers to each command mean.
-use Rattle.std.proofs.Common.{◌≡◌, ℕ, List, Bool, None, Some, Ok, Err, sym, ap, ◌∙◌, subst, inl, inr}
-use Rattle.std.specs.Prelude.{◌↔◌}
+use Rattle.std.proofs.Common.{◌≡◌, ℕ, List, [], Bool, None, Some, Ok, Err, sym, ap, ◌∙◌, subst, inl, inr}
+use Rattle.std.specs.Prelude.{◌↔◌, ◌==◌, if◌then◌else◌}
+use Rattle.std.proofs.lemmas.List.{append-nil}
 use Rattle.std.specs.declared.option.Option.{Option}
 use Rattle.std.specs.declared.result.Result.{Result}
 use Rattle.isdbt_base.specs.declared.kinds.Layer.{Layer}
@@ -12,7 +13,7 @@ use Rattle.edge_io.specs.declared.shelf.Seat.{Seat}
 use Rattle.edge_io.specs.declared.shelf.Seat.TheVariants as seats
 use Rattle.edge_io.specs.Known.{append_known}
 use Rattle.edge_io.specs.Causes.{Cause}
-use Rattle.edge_io.specs.FrameAnswers.{lone_account, Finished, LoneAnswer}
+use Rattle.edge_io.specs.FrameAnswers.{FaultKind, LoneCommand, lone_account, Finished, LoneAnswer, LoneCause}
 use Rattle.remux_core.specs.declared.fault.RemuxFault.{RemuxFault}
 use Rattle.remux_core.specs.declared.fault.RemuxFault.TheVariants as remux_faults
 use Rattle.remux_core.specs.Parts.{IsGood}
@@ -20,22 +21,27 @@ use Rattle.remux_core.specs.Answers.{remux_kind, remux_command, remux_account, I
 use Rattle.remux_core.proofs.Refusing.{refusal-good}
 use Rattle.coder_core.specs.declared.fault.CodeFault.{CodeFault}
 use Rattle.coder_core.specs.CodeRefusals.{code_refusal, is_there, coded_frame}
-use Rattle.coder_core.specs.Answers.{code_kind, code_command}
+use Rattle.coder_core.specs.Answers.{code_kind, code_command, show_command}
 use Rattle.seg_receiver.specs.CellStream.{view_of}
+use Rattle.seg_receiver.specs.declared.aim.Aim.TheVariants.{Lines}
+use Rattle.seg_receiver.specs.Aims.{aim_of}
 use Rattle.seg_receiver.specs.ReceiveRefusals.{receive_is_there, receive_refusal}
 use Rattle.seg_receiver.specs.ReceiveAnswers.{receive_kind, receive_command}
+use Rattle.sample.specs.SamplePlan.{sample_frames}
+use Rattle.sample.specs.Answers.{sample_text, sample_kind, sample_command, no_account, SampleAnswer}
 use Rattle.isdbt_cli.specs.declared.fault.Outcome.{Outcome}
 use Rattle.isdbt_cli.specs.declared.fault.Outcome.TheVariants.{Done, Fault}
-use Rattle.isdbt_cli.specs.declared.fault.RunFault.TheVariants.{Usage}
-use Rattle.isdbt_cli.specs.CommandLines.{Command, remux, code, receive, IsRemux, IsCommand, Spells, IsFaultAt}
+use Rattle.isdbt_cli.specs.declared.fault.RunFault.{RunFault}
+use Rattle.isdbt_cli.specs.declared.fault.RunFault.TheVariants.{Usage, NoMemory}
+use Rattle.isdbt_cli.specs.CommandLines.{Command, remux, code, receive, show_bts, show_cells, sample, IsRemux, IsCommand, Spells, IsFaultAt}
 use Rattle.setting_words.specs.SettingWords.{Word}
 use Rattle.isdbt_cli.specs.Chain.{IsDoneWith, received_for}
-use Rattle.isdbt_cli.specs.Faults.{run_fault_of, run_fault_of_code, run_fault_of_receive}
+use Rattle.isdbt_cli.specs.Faults.{run_fault_of, run_fault_of_code, run_fault_of_receive, run_fault_of_sample}
 use Rattle.isdbt_cli.specs.FrameLimit.{frame_limit}
-use Rattle.isdbt_cli.specs.Run.{layer_names, lone_name, names_of, SeatsAfter, outcome_of, EndsSo, AnswerOf, CauseOf, NothingRose, RefusesNone, IsDoneOrNoMemory, IsFree}
+use Rattle.isdbt_cli.specs.Run.{layer_names, lone_name, no_names, names_of, SeatsAfter, OpenFailed, outcome_of, EndsSo, AnswerOf, CauseOf, NothingRose, RefusesNone, IsDoneOrNoMemory, IsFree}
 use Rattle.isdbt_cli.proofs.OnePlace.{no_place, one_place}
 use Rattle.isdbt_cli.proofs.NamedInputs.{used_name}
-use Rattle.isdbt_cli.proofs.Outcomes.{remux_keeps, code_keeps, receive_keeps, no_usage, same_count, no_refusal, quiet}
+use Rattle.isdbt_cli.proofs.Outcomes.{KeepsKind, remux_keeps, code_keeps, receive_keeps, sample_keeps, no_usage, same_count, no_refusal, quiet}
 
 -- ---- usage
 
@@ -44,6 +50,9 @@ not_usage : (c : Command) (shelf shelf' : Cause → ℕ) (sink sink' : ℕ) (out
 not_usage (remux p a b c) shelf shelf' sink sink' outcome word cause e = no_usage run_fault_of remux_kind _ _ outcome word remux_keeps cause e
 not_usage (code p how name) shelf shelf' sink sink' outcome word cause e = no_usage run_fault_of_code code_kind _ _ outcome word code_keeps cause e
 not_usage (receive form partial name) shelf shelf' sink sink' outcome word cause e = no_usage run_fault_of_receive receive_kind _ _ outcome word receive_keeps cause e
+not_usage (show_bts mode guard name) shelf shelf' sink sink' outcome word cause e = no_usage run_fault_of_code code_kind _ _ outcome word code_keeps cause e
+not_usage (show_cells form name) shelf shelf' sink sink' outcome word cause e = no_usage run_fault_of_receive receive_kind _ _ outcome word receive_keeps cause e
+not_usage (sample number) shelf shelf' sink sink' outcome word cause e = no_usage run_fault_of_sample sample_kind _ _ outcome word sample_keeps cause e
 
 pub ok_usage : (words : List Word) (c : Command) (shelf shelf' : Cause → ℕ) (sink sink' : ℕ) (outcome : Outcome) (word : ℕ) → Spells words c → CauseOf c shelf shelf' sink sink' outcome → (outcome ≡ Fault (Usage word)) ↔ IsFaultAt words word
 ok_usage words c shelf shelf' sink sink' outcome word s cause = (λ e. absurd (not_usage c shelf shelf' sink sink' outcome word cause e), λ f. absurd (no_place words c word s f))
@@ -70,20 +79,46 @@ answer_done : (how : Writing) (p : Schedule) (input : List ℕ) (before after le
 answer_done how p input before after left m (Ok k) same says = (let count : k ≡ m = cc in subst (λ i. Finished (code_command how p input frame_limit) i before after left) count says)
 answer_done how p input before after left m (Err f) same says = absurd (cc)
 
+-- of so many frames only the last writes
+last_alone : (text : List ℕ) → product (λ f. if f == 14 then text else []) sample_frames ≡ text
+unfolding product
+last_alone text = append-nil text
+
 module _ (holds : Word → Option (List ℕ)) (before after : Option (List ℕ)) (left : Seat → Option (List ℕ)) (shelf shelf' : Cause → ℕ) (sink sink' : ℕ) (outcome : Outcome) where
+  -- a command over one input that refuses nothing
+  lone : {F : Type 0} (fault_of : F → RunFault) (kind : F → FaultKind) → KeepsKind fault_of kind → (c : LoneCommand F) (name : Word) → NothingRose (lone_name name) shelf shelf' sink sink' → ((f : ℕ) → c.frames.refusal f ≡ None)
+      → EndsSo fault_of (λ seat. after ≡ before) (LoneAnswer kind c before after (left seats.In)) outcome → EndsSo fault_of (OpenFailed (lone_name name) shelf shelf' sink sink') (LoneCause kind shelf shelf' sink sink') outcome → IsDoneOrNoMemory outcome
+  lone fault_of kind keeps c name none free says cause =
+      quiet fault_of kind keeps c.frames (lone_account c (left seats.In)) (λ seat. seat ≡ seats.In) (lone_name name) before after shelf shelf' sink sink'
+      (lone_named name) none IsDoneOrNoMemory tt (λ f r. absurd (let at = r.ended.outcome.at in let fine = free r.frame in cc))
+      (LoneAnswer kind c before after (left seats.In)) outcome (λ m done. tt) (λ f fault. fault) says cause
+
+  -- a sample answers in one of two ways
+  sampled_so : (number : ℕ) (P : Outcome → Type 0) → P (Fault NoMemory) → ((m : ℕ) → SampleAnswer number before after (Ok m) → P (Done m)) → AnswerOf (sample number) holds before after left outcome → CauseOf (sample number) shelf shelf' sink sink' outcome
+      → NothingRose no_names shelf shelf' sink sink' → P outcome
+  sampled_so number P memory done says cause none =
+      quiet run_fault_of_sample sample_kind sample_keeps (sample_command number) no_account (λ seat. ⊥) no_names before after shelf shelf' sink sink'
+      (λ seat bad. absurd bad) none P memory (λ f r. absurd (let at = r.ended.outcome.at in cc)) (SampleAnswer number before after) outcome done (λ f fault. fault) says cause
+
   pub complete : (c : Command) → IsCommand c → AnswerOf c holds before after left outcome → CauseOf c shelf shelf' sink sink' outcome → NothingRose (names_of c) shelf shelf' sink sink' → RefusesNone c holds → IsDoneOrNoMemory outcome
   complete (remux p a b n) is says cause none free =
       quiet run_fault_of remux_kind remux_keeps (remux_command p free.0 frame_limit) (remux_account p free.0 frame_limit left) (IsInputSeat p) (layer_names a b n) before after shelf shelf' sink sink'
       (layer_named p a b n is) none IsDoneOrNoMemory tt (λ f r. absurd (let at = r.ended.outcome.at in let fine = free.2 r.frame in cc))
       (RemuxAnswer p free.0 frame_limit before after left) outcome (λ m done. tt) (λ f fault. fault) (says free.0 free.1) cause
-  complete (code p how name) is says cause none free =
-      quiet run_fault_of_code code_kind code_keeps (code_command how p free.0 frame_limit).frames (lone_account (code_command how p free.0 frame_limit) (left seats.In)) (λ seat. seat ≡ seats.In) (lone_name name) before after shelf shelf' sink sink'
-      (lone_named name) none IsDoneOrNoMemory tt (λ f r. absurd (let at = r.ended.outcome.at in let fine = free.2 r.frame in cc))
-      (LoneAnswer code_kind (code_command how p free.0 frame_limit) before after (left seats.In)) outcome (λ m done. tt) (λ f fault. fault) (says free.0 free.1) cause
+  complete (code p how name) is says cause none free = lone run_fault_of_code code_kind code_keeps (code_command how p free.0 frame_limit) name none free.2 (says free.0 free.1) cause
   complete (receive form partial name) is says cause none free =
-      quiet run_fault_of_receive receive_kind receive_keeps (receive_command (view_of form free.0) partial free.0 frame_limit).frames (lone_account (receive_command (view_of form free.0) partial free.0 frame_limit) (left seats.In)) (λ seat. seat ≡ seats.In) (lone_name name) before after shelf shelf' sink sink'
-      (lone_named name) none IsDoneOrNoMemory tt (λ f r. absurd (let at = r.ended.outcome.at in let fine = free.2 r.frame in cc))
-      (LoneAnswer receive_kind (receive_command (view_of form free.0) partial free.0 frame_limit) before after (left seats.In)) outcome (λ m done. tt) (λ f fault. fault) (says free.0 free.1) cause
+      lone run_fault_of_receive receive_kind receive_keeps (receive_command (view_of form free.0) (aim_of partial) free.0 frame_limit) name none free.2 (says free.0 free.1) cause
+  complete (show_bts mode guard name) is says cause none free = lone run_fault_of_code code_kind code_keeps (show_command mode guard free.0 frame_limit) name none free.2 (says free.0 free.1) cause
+  complete (show_cells form name) is says cause none free =
+      lone run_fault_of_receive receive_kind receive_keeps (receive_command (view_of form free.0) Lines free.0 frame_limit) name none free.2 (says free.0 free.1) cause
+  complete (sample number) is says cause none free = sampled_so number IsDoneOrNoMemory tt (λ m done. tt) says cause none
+
+  -- the text of a sample
+  pub sampled : (number : ℕ) → AnswerOf (sample number) holds before after left outcome → CauseOf (sample number) shelf shelf' sink sink' outcome → NothingRose no_names shelf shelf' sink sink'
+      → IsDoneWith sample_frames (sample_text number) before after outcome
+  sampled number says cause none =
+      sampled_so number (IsDoneWith sample_frames (sample_text number) before after) tt
+      (λ m done. (done.count, done.ended.written ∙ ap (λ k. append_known before (product (sample_command number).frame k)) done.count ∙ ap (append_known before) (last_alone (sample_text number)))) says cause none
 
   -- good packets leave too many frames too
   too_long_alone : (fault : RemuxFault) → fault ≡ remux_faults.TooLong → IsFree (Fault (run_fault_of fault))
@@ -108,14 +143,14 @@ module _ (holds : Word → Option (List ℕ)) (before after : Option (List ℕ))
       (λ m done. (let e = same_count (code_refusal p input frame_limit) (is_there p input) m count None None done.ended.outcome all in (e, done.ended.written ∙ ap (λ k. append_known before (product (coded_frame how p input) k)) e ∙ ap (append_known before) same)))
       (λ f fault. fault) says cause
 
-  pub given : (form : Form) (partial : Bool) (name : Word) (stream : List ℕ) (count : ℕ) (packets : List ℕ) → EndsSo run_fault_of_receive (λ seat. after ≡ before) (LoneAnswer receive_kind (receive_command (view_of form stream) partial stream frame_limit) before after (left seats.In)) outcome → CauseOf (receive form partial name) shelf shelf' sink sink' outcome
-      → NothingRose (lone_name name) shelf shelf' sink sink' → IsOutcome (receive_refusal (view_of form stream) partial frame_limit) (receive_is_there (view_of form stream)) count None → received_for partial (view_of form stream) count ≡ packets → IsDoneWith count packets before after outcome
+  pub given : (form : Form) (partial : Bool) (name : Word) (stream : List ℕ) (count : ℕ) (packets : List ℕ) → EndsSo run_fault_of_receive (λ seat. after ≡ before) (LoneAnswer receive_kind (receive_command (view_of form stream) (aim_of partial) stream frame_limit) before after (left seats.In)) outcome → CauseOf (receive form partial name) shelf shelf' sink sink' outcome
+      → NothingRose (lone_name name) shelf shelf' sink sink' → IsOutcome (receive_refusal (view_of form stream) (aim_of partial) frame_limit) (receive_is_there (view_of form stream)) count None → received_for partial (view_of form stream) count ≡ packets → IsDoneWith count packets before after outcome
   given form partial name stream count packets says cause none all same =
       let v = view_of form stream in
-      quiet run_fault_of_receive receive_kind receive_keeps (receive_command v partial stream frame_limit).frames (lone_account (receive_command v partial stream frame_limit) (left seats.In)) (λ seat. seat ≡ seats.In) (lone_name name) before after shelf shelf' sink sink'
-      (lone_named name) none (IsDoneWith count packets before after) tt (λ f r. absurd (no_refusal (receive_refusal v partial frame_limit) (receive_is_there v) count r.frame f all r.ended.outcome))
-      (LoneAnswer receive_kind (receive_command v partial stream frame_limit) before after (left seats.In)) outcome
-      (λ m done. (let e = same_count (receive_refusal v partial frame_limit) (receive_is_there v) m count None None done.ended.outcome all in (e, done.ended.written ∙ ap (λ k. append_known before (received_for partial v k)) e ∙ ap (append_known before) same)))
+      quiet run_fault_of_receive receive_kind receive_keeps (receive_command v (aim_of partial) stream frame_limit).frames (lone_account (receive_command v (aim_of partial) stream frame_limit) (left seats.In)) (λ seat. seat ≡ seats.In) (lone_name name) before after shelf shelf' sink sink'
+      (lone_named name) none (IsDoneWith count packets before after) tt (λ f r. absurd (no_refusal (receive_refusal v (aim_of partial) frame_limit) (receive_is_there v) count r.frame f all r.ended.outcome))
+      (LoneAnswer receive_kind (receive_command v (aim_of partial) stream frame_limit) before after (left seats.In)) outcome
+      (λ m done. (let e = same_count (receive_refusal v (aim_of partial) frame_limit) (receive_is_there v) m count None None done.ended.outcome all in (e, done.ended.written ∙ ap (λ k. append_known before (received_for partial v k)) e ∙ ap (append_known before) same)))
       (λ f fault. fault) says cause
 
   -- a coding that is done came to the end of its frames

@@ -10,13 +10,14 @@ use Rattle.isdbt_base.specs.declared.kinds.Mode.TheVariants.{M1}
 use Rattle.isdbt_base.specs.declared.kinds.Guard.TheVariants.{G4}
 use Rattle.isdbt_base.specs.Plans.{Switch, Schedule, IsPlan, RisesFrom, at_frame, at_from}
 use Rattle.isdbt_base.proofs.PlanEpochs.{at_from-before}
-use Rattle.isdbt_cli.specs.CommandLines.{form_words, IsName, IsNameIfGiven, Command, remux, code, receive, SpellCommand, Spells, IsFaultAt}
+use Rattle.isdbt_cli.specs.CommandLines.{IsName, IsNameIfGiven, Command, remux, code, receive, show_bts, show_cells, sample, SpellCommand, Spells, IsFaultAt}
 use Rattle.setting_words.specs.SettingWords.{Word}
 use Rattle.isdbt_cli.specs.Parsing.{Unread, BeginsWith, IsStuck, Reads, Follows, SpellsPlan, HasNoFrame, named, command_of}
 use Rattle.isdbt_cli.proofs.Stuck.{stuck_behind, reads_none, AnyCommand, fault_at}
 use Rattle.isdbt_cli.proofs.Transmissions.{some_setting, some_accepted, same_head, same_tail}
 use Rattle.isdbt_cli.proofs.PlanSpelling.{begins_at}
-use Rattle.isdbt_cli.proofs.PlanLines.{NamesOf, names_words, code_words, receive_words, spell_remux, remux_spelled, code_spelled, receive_spelled, some_named, some_inputs, line_follows, follows_line, line_behind}
+use Rattle.isdbt_cli.proofs.CommandWords.{names_words, spell_remux, name_of, first_word}
+use Rattle.isdbt_cli.proofs.PlanLines.{NamesOf, some_named, some_inputs, line_follows, follows_line, line_behind}
 use Rattle.isdbt_cli.proofs.PlanLines.{inputs_behind, inputs_next, sent_follows}
 
 -- ---- behind a plan
@@ -120,22 +121,14 @@ behind_plan read u v place r s = stuck_behind (Line read) (Follows (codes "remux
 
 -- ---- all words
 
--- a command's first word
-abbrev pub name_of : Command → Word
-name_of (remux p a b c) = codes "remux"
-name_of (code p how name) = codes "code"
-name_of (receive form partial name) = codes "receive"
-
-pub first_word : (c : Command) (words : List Word) → SpellCommand c words → (rest : List Word) × (words ≡ name_of c ∷ rest)
-first_word (remux p a b c) words s = (let k = remux_spelled p a b c words s in (k.0 ++ names_words a b c, k.2))
-first_word (code p how name) words s = (let k = code_spelled p how name words s in (k.0 ++ code_words how name, k.2))
-first_word (receive form partial name) words s = (form_words form ++ receive_words partial name, receive_spelled form partial name words s)
-
 -- another word than a command's is none's first
-no_name : (w : Word) (c : Command) → w ≢ codes "remux" → w ≢ codes "code" → w ≢ codes "receive" → w ≢ name_of c
-no_name w (remux p a b c) not_remux not_code not_receive = not_remux
-no_name w (code p how name) not_remux not_code not_receive = not_code
-no_name w (receive form partial name) not_remux not_code not_receive = not_receive
+no_name : (w : Word) (c : Command) → w ≢ codes "remux" → w ≢ codes "code" → w ≢ codes "receive" → w ≢ codes "show" → w ≢ codes "sample" → w ≢ name_of c
+no_name w (remux p a b c) not_remux not_code not_receive not_show not_sample = not_remux
+no_name w (code p how name) not_remux not_code not_receive not_show not_sample = not_code
+no_name w (receive form partial name) not_remux not_code not_receive not_show not_sample = not_receive
+no_name w (show_bts mode guard name) not_remux not_code not_receive not_show not_sample = not_show
+no_name w (show_cells form name) not_remux not_code not_receive not_show not_sample = not_show
+no_name w (sample number) not_remux not_code not_receive not_show not_sample = not_sample
 
 pub spells : (p : Schedule) (read : List Word) (a : Word) (b c : Option Word) (words : List Word) → SpellsPlan p read → IsName a
     → IsNameIfGiven b × (is_some b ≡ is_some p.first.setting.b) → IsNameIfGiven c × (is_some c ≡ is_some p.first.setting.c)
@@ -214,14 +207,14 @@ no_words u place says = record {
 }
 
 -- another word than a command's
-pub no_command : (u v : Unread) (w : Word) (place : ℕ) → place ≡ u.place → Reads (w ∷ []) u v → w ≢ codes "remux" → w ≢ codes "code" → w ≢ codes "receive" → IsStuck AnyCommand u place
-no_command u v w place at reads not_remux not_code not_receive = record {
+pub no_command : (u v : Unread) (w : Word) (place : ℕ) → place ≡ u.place → Reads (w ∷ []) u v → w ≢ codes "remux" → w ≢ codes "code" → w ≢ codes "receive" → w ≢ codes "show" → w ≢ codes "sample" → IsStuck AnyCommand u place
+no_command u v w place at reads not_remux not_code not_receive not_show not_sample = record {
   front = [];
   rest = u.words;
   split = refl;
   place_is = omega (arith, at);
   goes_on = (codes "remux" ∷ some_line.0, some_line.1);
-  stuck = λ tail a heads. no_name w a.0 not_remux not_code not_receive (same_head (ap (take 1) (sym reads.split) ∙ sym heads ∙ ap (take 1) (first_word a.0 tail a.1.spelled).1));
+  stuck = λ tail a heads. no_name w a.0 not_remux not_code not_receive not_show not_sample (same_head (ap (take 1) (sym reads.split) ∙ sym heads ∙ ap (take 1) (first_word a.0 tail a.1.spelled).1));
 }
 
 -- the rule of a command's first word says it of all words

@@ -15,6 +15,7 @@ use Rattle.remux_core.specs.Answers.{IsPlacedIn}
 use Rattle.coder_core.specs.SentCells.{sent_frame}
 use Rattle.coder_core.specs.InputFrames.{first_head}
 use Rattle.coder_core.specs.CodeRefusals.{code_refusal, is_there, frames_from, coded_frame}
+use Rattle.seg_receiver.specs.Aims.{aim_of}
 use Rattle.seg_receiver.specs.CellStream.{View, view_of, writing_of}
 use Rattle.seg_receiver.specs.ReceiveAnswers.{given_frame}
 use Rattle.seg_receiver.specs.ReceiveRefusals.{receive_is_there, receive_refusal}
@@ -52,7 +53,7 @@ IsNearFor true v p frames count = IsNearPartial v p frames count
 
 -- what is received of the first so many frames of a view, and what is delivered of those of a plan
 abbrev pub received_for : Bool → View → ℕ → List ℕ
-received_for partial v m = product (given_frame v partial) m
+received_for partial v m = product (given_frame v (aim_of partial)) m
 
 abbrev pub delivered_for : Bool → Schedule → FramePackets → ℕ → List ℕ
 delivered_for false p frames m = delivered p frames m
@@ -60,7 +61,7 @@ delivered_for true p frames m = delivered_partial p frames m
 
 -- a view is received as the delivered packets of a plan's frames, in full or with partial reception: all are there and none is refused, and each front part of them is that of the delivered stream
 pub record IsReceivedAs (partial : Bool) (v : View) (p : Schedule) (frames : FramePackets) (count : ℕ) : Type 0 where
-  pub outcome : IsOutcome (receive_refusal v partial frame_limit) (receive_is_there v) count None
+  pub outcome : IsOutcome (receive_refusal v (aim_of partial) frame_limit) (receive_is_there v) count None
   pub product : (m : ℕ) → m ≤ count → received_for partial v m ≡ delivered_for partial p frames m
 
 -- the version of the stream that a coding writes: in version 1 all frames are of the mode and the guard interval of the plan's first

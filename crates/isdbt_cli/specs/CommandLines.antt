@@ -83,11 +83,14 @@ part_words = told_last (codes "partial")
 
 -- ---- commands
 
--- remux: a plan, and the names of the inputs of layers A, B and C; code: a plan, how the stream is written, and the name of its input; receive: the version of the stream, in version 1 with a mode and a guard interval, whether reception is partial, and the name of its input
+-- remux: a plan, and the names of the inputs of layers A, B and C; code: a plan, how the stream is written, and the name of its input; receive: the version of the stream, in version 1 with a mode and a guard interval, whether reception is partial, and the name of its input; show bts: a mode, a guard interval, and the name of its input; show cells: the version of the stream, and the name of its input; sample: a number
 pub data Command : Type 0 where
   remux : Schedule → Word → Option Word → Option Word → Command
   code : Schedule → Writing → Word → Command
   receive : Form → Bool → Word → Command
+  show_bts : Mode → Guard → Word → Command
+  show_cells : Form → Word → Command
+  sample : ℕ → Command
 
 -- these words spell a command
 unfoldable pub SpellCommand : Command → List Word → Type 0
@@ -96,6 +99,9 @@ SpellCommand (remux p a b c) words =
 SpellCommand (code p how name) words =
     (plan : List Word) × SpellPlan p plan × (words ≡ codes "code" ∷ (plan ++ (input_word (codes "IN") name ∷ version_words how.v2)))
 SpellCommand (receive form partial name) words = words ≡ codes "receive" ∷ (form_words form ++ (input_word (codes "IN") name ∷ part_words partial))
+SpellCommand (show_bts mode guard name) words = words ≡ codes "show" ∷ codes "bts" ∷ (told_words true mode guard ++ (input_word (codes "IN") name ∷ []))
+SpellCommand (show_cells form name) words = words ≡ codes "show" ∷ codes "cells" ∷ (form_words form ++ (input_word (codes "IN") name ∷ []))
+SpellCommand (sample number) words = words ≡ codes "sample" ∷ decimal number ∷ []
 
 -- the plan is accepted, and exactly its layers' inputs are named
 pub record IsRemux (p : Schedule) (a : Word) (b c : Option Word) : Type 0 where
@@ -112,10 +118,17 @@ pub record IsCode (p : Schedule) (how : Writing) (name : Word) : Type 0 where
   pub keeps : how.v2 ≡ false → KeepsMode p.first p.switches
   pub input_name : IsName name
 
+-- the number of a sample
+abbrev pub IsSampleNumber : ℕ → Type 0
+IsSampleNumber number = number ≤ 65535
+
 abbrev pub IsCommand : Command → Type 0
 IsCommand (remux p a b c) = IsRemux p a b c
 IsCommand (code p how name) = IsCode p how name
 IsCommand (receive form partial name) = IsName name
+IsCommand (show_bts mode guard name) = IsName name
+IsCommand (show_cells form name) = IsName name
+IsCommand (sample number) = IsSampleNumber number
 
 -- the words are some of an accepted command
 pub record Spells (words : List Word) (c : Command) : Type 0 where

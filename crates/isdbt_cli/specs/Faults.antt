@@ -8,6 +8,8 @@ use Rattle.coder_core.specs.declared.fault.CodeFault.{CodeFault}
 use Rattle.coder_core.specs.declared.fault.CodeFault.TheVariants as code
 use Rattle.seg_receiver.specs.declared.fault.ReceiveFault.{ReceiveFault}
 use Rattle.seg_receiver.specs.declared.fault.ReceiveFault.TheVariants as receive
+use Rattle.sample.specs.declared.fault.SampleFault.{SampleFault}
+use Rattle.sample.specs.declared.fault.SampleFault.TheVariants as sample
 use Rattle.remux_core.specs.declared.fault.RemuxFault.{RemuxFault}
 use Rattle.remux_core.specs.declared.fault.RemuxFault.TheVariants.{BadSync, Truncated, ReadFault, WriteFault, TooLong, NoMemory}
 
@@ -61,3 +63,7 @@ run_fault_of_receive (receive.ReadFault seat) = run.ReadFault seat
 run_fault_of_receive receive.WriteFault = run.WriteFault
 run_fault_of_receive receive.TooLong = run.TooLong
 run_fault_of_receive receive.NoMemory = run.NoMemory
+
+abbrev pub run_fault_of_sample : SampleFault → RunFault
+run_fault_of_sample sample.WriteFault = run.WriteFault
+run_fault_of_sample sample.NoMemory = run.NoMemory

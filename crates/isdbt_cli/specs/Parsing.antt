@@ -9,8 +9,8 @@ use Rattle.isdbt_base.specs.Plans.{Transmission, Switch, Schedule, SameLayers, I
 use Rattle.isdbt_base.specs.Epochs.{last_start, last_sent}
 use Rattle.isdbt_base.specs.Switching.{with_switch}
 use Rattle.isdbt_cli.specs.declared.command.Command.{Command as Parsed}
-use Rattle.isdbt_cli.specs.declared.command.Command.TheVariants.{Remux, Code, Receive}
-use Rattle.isdbt_cli.specs.CommandLines.{frame_word, told_words, IsIn, SpellPlan, told_last, Command, remux, code, receive, Spells}
+use Rattle.isdbt_cli.specs.declared.command.Command.TheVariants.{Remux, Code, Receive, ShowBts, ShowCells, Sample}
+use Rattle.isdbt_cli.specs.CommandLines.{frame_word, told_words, IsIn, SpellPlan, told_last, Command, remux, code, receive, show_bts, show_cells, sample, Spells}
 use Rattle.setting_words.specs.SettingWords.{Word, mode_word, guard_word, setting_word}
 
 -- words still to be read, and the place of the first of them
@@ -44,11 +44,18 @@ IsAny x = Unit {0}
 abbrev pub Follows : Word → List Word → Type 0
 Follows first words = (c : Command) × Spells (first ∷ words) c
 
+-- words that follow the first two words of a command
+abbrev pub FollowsBoth : Word → Word → List Word → Type 0
+FollowsBoth first second words = Follows first (second ∷ words)
+
 -- the command that the program's value stands for
 abbrev pub command_of : Parsed → Command
 command_of (Remux plan a b c) = remux plan a.now (option_map (λ x. x.now) b) (option_map (λ x. x.now) c)
 command_of (Code plan how name) = code plan how name.now
 command_of (Receive form partial name) = receive form partial name.now
+command_of (ShowBts mode guard name) = show_bts mode guard name.now
+command_of (ShowCells form name) = show_cells form name.now
+command_of (Sample number) = sample number
 
 -- a named input, if it is given: the seat's text and the name
 abbrev pub named : Word → Option Word → List Word

@@ -6,21 +6,24 @@ use Rattle.isdbt_base.specs.declared.kinds.Layer.{Layer}
 use Rattle.edge_io.specs.declared.shelf.Seat.{Seat}
 use Rattle.edge_io.specs.declared.shelf.Seat.TheVariants.{A, B, C, In}
 use Rattle.edge_io.specs.Causes.{Rose, Cause, Opening, Reading}
-use Rattle.edge_io.specs.FrameAnswers.{LoneAnswer, LoneCause}
+use Rattle.edge_io.specs.FrameAnswers.{LoneAnswer, LoneCause, AnswerCause}
 use Rattle.remux_core.specs.Refusals.{seat_of, refusal}
 use Rattle.remux_core.specs.Answers.{RemuxAnswer, RemuxCause}
 use Rattle.coder_core.specs.CodeRefusals.{code_refusal}
-use Rattle.coder_core.specs.Answers.{code_kind, code_command}
+use Rattle.coder_core.specs.Answers.{code_kind, code_command, show_command}
 use Rattle.seg_receiver.specs.CellStream.{view_of}
+use Rattle.seg_receiver.specs.declared.aim.Aim.TheVariants.{Lines}
+use Rattle.seg_receiver.specs.Aims.{aim_of}
 use Rattle.seg_receiver.specs.ReceiveRefusals.{receive_refusal}
 use Rattle.seg_receiver.specs.ReceiveAnswers.{receive_kind, receive_command}
+use Rattle.sample.specs.Answers.{sample_kind, SampleAnswer}
 use Rattle.isdbt_cli.specs.declared.fault.Outcome.{Outcome}
 use Rattle.isdbt_cli.specs.declared.fault.Outcome.TheVariants.{Done, Fault}
 use Rattle.isdbt_cli.specs.declared.fault.RunFault.{RunFault}
 use Rattle.isdbt_cli.specs.declared.fault.RunFault.TheVariants.{Usage, OpenFault, TooLong, NoMemory}
-use Rattle.isdbt_cli.specs.Faults.{run_fault_of, run_fault_of_code, run_fault_of_receive}
+use Rattle.isdbt_cli.specs.Faults.{run_fault_of, run_fault_of_code, run_fault_of_receive, run_fault_of_sample}
 use Rattle.isdbt_cli.specs.FrameLimit.{frame_limit}
-use Rattle.isdbt_cli.specs.CommandLines.{Command, remux, code, receive, Spells, IsFaultAt}
+use Rattle.isdbt_cli.specs.CommandLines.{Command, remux, code, receive, show_bts, show_cells, sample, Spells, IsFaultAt}
 use Rattle.setting_words.specs.SettingWords.{Word}
 
 -- ---- inputs
@@ -41,10 +44,16 @@ lone_name name B = None
 lone_name name C = None
 lone_name name In = Some name
 
+abbrev pub no_names : Names
+no_names seat = None
+
 abbrev pub names_of : Command → Names
 names_of (remux p a b c) = layer_names a b c
 names_of (code p how name) = lone_name name
 names_of (receive form partial name) = lone_name name
+names_of (show_bts mode guard name) = lone_name name
+names_of (show_cells form name) = lone_name name
+names_of (sample number) = no_names
 
 -- the named inputs of the layers hold these bytes, and a layer without a name has none
 pub record Hold (holds : Word → Option (List ℕ)) (name : Names) (input : Layer → List ℕ) : Type 0 where
@@ -101,7 +110,12 @@ AnswerOf (remux p a b c) holds before after left outcome = (input : Layer → Li
 AnswerOf (code p how name) holds before after left outcome = (input : List ℕ) → holds name ≡ Some input
     → EndsSo run_fault_of_code (λ seat. after ≡ before) (LoneAnswer code_kind (code_command how p input frame_limit) before after (left In)) outcome
 AnswerOf (receive form partial name) holds before after left outcome = (stream : List ℕ) → holds name ≡ Some stream
-    → EndsSo run_fault_of_receive (λ seat. after ≡ before) (LoneAnswer receive_kind (receive_command (view_of form stream) partial stream frame_limit) before after (left In)) outcome
+    → EndsSo run_fault_of_receive (λ seat. after ≡ before) (LoneAnswer receive_kind (receive_command (view_of form stream) (aim_of partial) stream frame_limit) before after (left In)) outcome
+AnswerOf (show_bts mode guard name) holds before after left outcome = (input : List ℕ) → holds name ≡ Some input
+    → EndsSo run_fault_of_code (λ seat. after ≡ before) (LoneAnswer code_kind (show_command mode guard input frame_limit) before after (left In)) outcome
+AnswerOf (show_cells form name) holds before after left outcome = (stream : List ℕ) → holds name ≡ Some stream
+    → EndsSo run_fault_of_receive (λ seat. after ≡ before) (LoneAnswer receive_kind (receive_command (view_of form stream) Lines stream frame_limit) before after (left In)) outcome
+AnswerOf (sample number) holds before after left outcome = EndsSo run_fault_of_sample (λ seat. after ≡ before) (SampleAnswer number before after) outcome
 
 -- ---- causes
 
@@ -117,6 +131,9 @@ abbrev pub CauseOf : Command → (Cause → ℕ) → (Cause → ℕ) → ℕ →
 CauseOf (remux p a b c) shelf shelf' sink sink' outcome = EndsSo run_fault_of (OpenFailed (layer_names a b c) shelf shelf' sink sink') (RemuxCause p shelf shelf' sink sink') outcome
 CauseOf (code p how name) shelf shelf' sink sink' outcome = EndsSo run_fault_of_code (OpenFailed (lone_name name) shelf shelf' sink sink') (LoneCause code_kind shelf shelf' sink sink') outcome
 CauseOf (receive form partial name) shelf shelf' sink sink' outcome = EndsSo run_fault_of_receive (OpenFailed (lone_name name) shelf shelf' sink sink') (LoneCause receive_kind shelf shelf' sink sink') outcome
+CauseOf (show_bts mode guard name) shelf shelf' sink sink' outcome = EndsSo run_fault_of_code (OpenFailed (lone_name name) shelf shelf' sink sink') (LoneCause code_kind shelf shelf' sink sink') outcome
+CauseOf (show_cells form name) shelf shelf' sink sink' outcome = EndsSo run_fault_of_receive (OpenFailed (lone_name name) shelf shelf' sink sink') (LoneCause receive_kind shelf shelf' sink sink') outcome
+CauseOf (sample number) shelf shelf' sink sink' outcome = EndsSo run_fault_of_sample (OpenFailed no_names shelf shelf' sink sink') (AnswerCause sample_kind (λ seat. ⊥) shelf shelf' sink sink') outcome
 
 -- the words have a fault, and nothing else happened
 pub record IsUsage (words : List Word) (shelf shelf' : Cause → ℕ) (sink sink' : ℕ) (outcome : Outcome) : Type 0 where
@@ -142,7 +159,10 @@ pub record NothingRose (name : Names) (shelf shelf' : Cause → ℕ) (sink sink'
 abbrev pub RefusesNone : Command → (Word → Option (List ℕ)) → Type 0
 RefusesNone (remux p a b c) holds = (input : Layer → List ℕ) × Hold holds (layer_names a b c) input × ((f : ℕ) → refusal p input frame_limit f ≡ None)
 RefusesNone (code p how name) holds = (input : List ℕ) × (holds name ≡ Some input) × ((f : ℕ) → code_refusal p input frame_limit f ≡ None)
-RefusesNone (receive form partial name) holds = (stream : List ℕ) × (holds name ≡ Some stream) × ((f : ℕ) → receive_refusal (view_of form stream) partial frame_limit f ≡ None)
+RefusesNone (receive form partial name) holds = (stream : List ℕ) × (holds name ≡ Some stream) × ((f : ℕ) → receive_refusal (view_of form stream) (aim_of partial) frame_limit f ≡ None)
+RefusesNone (show_bts mode guard name) holds = (input : List ℕ) × (holds name ≡ Some input) × ((f : ℕ) → (show_command mode guard input frame_limit).frames.refusal f ≡ None)
+RefusesNone (show_cells form name) holds = (stream : List ℕ) × (holds name ≡ Some stream) × ((f : ℕ) → receive_refusal (view_of form stream) Lines frame_limit f ≡ None)
+RefusesNone (sample number) holds = Unit {0}
 
 -- the answers where no frame is refused and nothing of the outside failed
 abbrev pub IsDoneOrNoMemory : Outcome → Type 0

@@ -1,6 +1,6 @@
 //! What a command line asks for.
 
-use isdbt_base::{Form, Plan, Writing};
+use isdbt_base::{Form, Guard, Mode, Plan, Writing};
 
 /// A command, as its words say it.
 #[derive(Debug, Drop)]
@@ -23,5 +23,20 @@ pub enum Command<'a> {
         form: Form,
         partial: bool,
         name: &'a str,
+    },
+    /// Shows the frames of broadcast packets of the input of this name, each with the packets of this mode and guard interval.
+    ShowBts {
+        mode: Mode,
+        guard: Guard,
+        name: &'a str,
+    },
+    /// Shows the frames of cells of the input of this name, a stream of this version.
+    ShowCells {
+        form: Form,
+        name: &'a str,
+    },
+    /// Runs the chain over the made input of this number.
+    Sample {
+        number: u16,
     },
 }

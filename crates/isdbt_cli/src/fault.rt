@@ -6,6 +6,7 @@ use coder_core::CodeFault;
 use edge_io::Seat;
 use isdbt_base::Layer;
 use remux_core::RemuxFault;
+use sample::SampleFault;
 use seg_receiver::ReceiveFault;
 use thiserror::Error;
 use tmcc_word::TmccFault;
@@ -187,6 +188,20 @@ impl From<ReceiveFault> for RunFault {
             ReceiveFault::WriteFault => RunFault::WriteFault,
             ReceiveFault::TooLong => RunFault::TooLong,
             ReceiveFault::NoMemory => RunFault::NoMemory,
+        }
+    }
+}
+
+impl From<SampleFault> for RunFault {
+    ghost use Rattle.isdbt_cli.specs.Faults.{run_fault_of_sample};
+    ghost use Rattle.std.specs.Prelude.{◌≡◌};
+
+    ghost from_gives = { λ fault e. e ≡ run_fault_of_sample fault };
+
+    fn from(fault: SampleFault) -> RunFault {
+        match fault {
+            SampleFault::WriteFault => RunFault::WriteFault,
+            SampleFault::NoMemory => RunFault::NoMemory,
         }
     }
 }

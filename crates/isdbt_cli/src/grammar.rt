@@ -3,16 +3,16 @@
 //! Where the words do not follow a rule, it answers the place of the fault: the least place such that nothing that
 //! follows the rule begins with the words up to it.
 
-ghost use Rattle.std.specs.Prelude.{◌≡◌, ℕ, ◌<◌, ◌++◌, ◌∷◌, [], length, Bool, false, None, is_some, IfSome, IfOk, IfErr, MatchResult, codes, map, string_bytes, option_map};
+ghost use Rattle.std.specs.Prelude.{◌≡◌, ℕ, ◌<◌, ◌++◌, ◌∷◌, [], length, Bool, false, None, is_some, IfSome, IfOk, IfErr, MatchResult, codes, map, string_bytes, option_map, decimal};
 ghost use Rattle.isdbt_base.specs.Parameters.{Parameters, IsAccepted};
 ghost use Rattle.isdbt_base.specs.declared.kinds.Mode.{Mode as SomeMode};
-ghost use Rattle.isdbt_cli.specs.CommandLines.{frame_word, transmission_words, told_last, IsName, IsNameIfGiven, Spells, IsFaultAt};
+ghost use Rattle.isdbt_cli.specs.CommandLines.{frame_word, transmission_words, told_last, IsName, IsNameIfGiven, IsSampleNumber, Spells, IsFaultAt};
 ghost use Rattle.setting_words.specs.SettingWords.{mode_word, guard_word, setting_word};
-ghost use Rattle.isdbt_cli.specs.Parsing.{Reads, BeginsWith, IsAny, IsStuck, Follows, command_of, named, StartsWith, ReadsTold, IsStuckAtGuard, told_by, IsLater, ReadsMode, IsChange, change_words, ReadsSwitch, IsStuckInSwitch, ReadsPlan, HasNoFrame, planned, SpellLast};
+ghost use Rattle.isdbt_cli.specs.Parsing.{Reads, BeginsWith, IsAny, IsStuck, Follows, FollowsBoth, command_of, named, StartsWith, ReadsTold, IsStuckAtGuard, told_by, IsLater, ReadsMode, IsChange, change_words, ReadsSwitch, IsStuckInSwitch, ReadsPlan, HasNoFrame, planned, SpellLast};
 
 use crate::command::Command;
 use crate::cursor::Cursor;
-use crate::fields::{LAST_FRAME, frame_of};
+use crate::fields::{LAST_FRAME, frame_of, sample_number_of};
 use isdbt_base::{At, Form, Guard, Layer, Mode, Plan, Setting, Writing};
 use setting_words::{guard_of, mode_of, setting_of};
 
@@ -29,6 +29,8 @@ pub fn any_command(list: &[String]) -> Result<Command<'_>, u64>
         "remux" => remux(&mut words),
         "code" => code(&mut words),
         "receive" => receive(&mut words),
+        "show" => show(&mut words),
+        "sample" => sample(&mut words),
         _ => Err(0),
     }
 }
@@ -90,6 +92,63 @@ fn receive<'a>(words: &mut Cursor<'a>) -> Result<Command<'a>, u64>
         partial,
         name,
     })
+}
+
+/// The words behind `show`: what is shown, and the words behind it.
+fn show<'a>(words: &mut Cursor<'a>) -> Result<Command<'a>, u64>
+    ensures { MatchResult result (λ c. Spells (codes "show" ∷ words.old.words) (command_of c))
+        (λ place. IsStuck (Follows (codes "show")) words.old place) }
+{
+    let place = words.place();
+    match words.word()? {
+        "bts" => show_bts(words),
+        "cells" => show_cells(words),
+        _ => Err(place),
+    }
+}
+
+/// The words behind `show bts`: the mode and the guard interval, and the name of its input.
+fn show_bts<'a>(words: &mut Cursor<'a>) -> Result<Command<'a>, u64>
+    ensures { MatchResult result (λ c. Spells (codes "show" ∷ codes "bts" ∷ words.old.words) (command_of c))
+        (λ place. IsStuck (FollowsBoth (codes "show") (codes "bts")) words.old place) }
+{
+    let mode = mode(words)?;
+    let guard = guard(words)?;
+    let name = name(words, "IN=")?;
+    words.end()?;
+    Ok(Command::ShowBts { mode, guard, name })
+}
+
+/// The words behind `show cells`: the version of the stream, and the name of its input.
+fn show_cells<'a>(words: &mut Cursor<'a>) -> Result<Command<'a>, u64>
+    ensures { MatchResult result (λ c. Spells (codes "show" ∷ codes "cells" ∷ words.old.words) (command_of c))
+        (λ place. IsStuck (FollowsBoth (codes "show") (codes "cells")) words.old place) }
+{
+    let form = form(words)?;
+    let name = name(words, "IN=")?;
+    words.end()?;
+    Ok(Command::ShowCells { form, name })
+}
+
+/// The words behind `sample`: its number.
+fn sample<'a>(words: &mut Cursor<'a>) -> Result<Command<'a>, u64>
+    ensures { MatchResult result (λ c. Spells (codes "sample" ∷ words.old.words) (command_of c))
+        (λ place. IsStuck (Follows (codes "sample")) words.old place) }
+{
+    let number = sample_number(words)?;
+    words.end()?;
+    Ok(Command::Sample { number })
+}
+
+/// The number of a sample.
+fn sample_number(words: &mut Cursor<'_>) -> Result<u16, u64>
+    ensures accepted { IfOk result (λ n. IsSampleNumber n) }
+    ensures ok { IfOk result (λ n. Reads (decimal n ∷ []) words.old words.new) }
+    ensures err { IfErr result (λ place. IsStuck (BeginsWith IsSampleNumber (λ n. decimal n ∷ [])) words.old place) }
+{
+    let place = words.place();
+    let word = words.word()?;
+    sample_number_of(word).ok_or(place)
 }
 
 /// The version of a stream that is read: version 1 where a mode and a guard interval are told, and else version 2.

@@ -3,8 +3,12 @@
 //! - `remux MODE GUARD PLAN A=NAME [B=NAME [C=NAME]]` makes broadcast packets of the layers' transport packets.
 //! - `code MODE GUARD PLAN IN=NAME [v2]` makes cells of broadcast packets. With `v2` each frame has a head, which says its
 //!   mode and guard interval.
-//! - `receive [MODE GUARD] IN=NAME` makes broadcast packets of cells, each layer's packets put off by its delay. The setting
-//!   it reads from the TMCC words of the frames. Without MODE and GUARD the frames have heads, and it reads both from them.
+//! - `receive [MODE GUARD] IN=NAME [partial]` makes broadcast packets of cells, each layer's packets put off by its delay. The
+//!   setting it reads from the TMCC words of the frames. Without MODE and GUARD the frames have heads, and it reads both from
+//!   them. With `partial` it makes layer A's packets alone, of the cells of segment 0.
+//! - `show bts MODE GUARD IN=NAME` and `show cells [MODE GUARD] IN=NAME` write a line for each frame of broadcast packets, or
+//!   of cells.
+//! - `sample NUMBER` makes an input of its own, sends it through all three with some cells spoiled, and writes what came.
 //!
 //! A PLAN is `SETTING {@FRAME [MODE GUARD] SETTING}`: what frame 0 sends, and at most seven switches, each from a frame on. A
 //! switch that names no mode and guard interval keeps those before it. Where one brings others, `code` wants `v2`.
@@ -35,6 +39,8 @@ mod refused_words_tests;
 #[cfg(test)]
 mod remux_tests;
 mod run;
+#[cfg(test)]
+mod show_tests;
 #[cfg(test)]
 mod switch_tests;
 #[cfg(test)]

@@ -11,34 +11,38 @@ ghost use Rattle.isdbt_base.specs.Outcome.{product};
 ghost use Rattle.gf_rs.specs.Codewords.{IsBytes};
 ghost use Rattle.edge_io.specs.declared.shelf.Seat.{Seat as Place};
 ghost use Rattle.edge_io.specs.declared.shelf.Seat.TheVariants as seats;
-ghost use Rattle.edge_io.specs.FrameAnswers.{LoneAnswer, LoneCause};
+ghost use Rattle.edge_io.specs.Causes.{Cause};
+ghost use Rattle.edge_io.specs.FrameAnswers.{LoneAnswer, LoneCause, AnswerCause};
 ghost use Rattle.remux_core.specs.Multiplex.{multiplexed};
 ghost use Rattle.remux_core.specs.Parts.{IsGood};
 ghost use Rattle.remux_core.specs.Answers.{RemuxAnswer, RemuxCause};
 ghost use Rattle.coder_core.specs.SentCells.{sent_frame};
-ghost use Rattle.coder_core.specs.Answers.{code_kind, code_command};
+ghost use Rattle.coder_core.specs.Answers.{code_kind, code_command, show_command};
 ghost use Rattle.seg_receiver.specs.CellStream.{View as SomeView, view_of, writing_of, AreInRow, NoBadHead};
 ghost use Rattle.seg_receiver.specs.Delivered.{CanCarry, ArePackets};
 ghost use Rattle.seg_receiver.specs.ReceiveAnswers.{receive_kind, receive_command};
+ghost use Rattle.sample.specs.SamplePlan.{sample_frames};
+ghost use Rattle.sample.specs.Answers.{sample_text, sample_kind, SampleAnswer};
 ghost use Rattle.isdbt_cli.specs.Chain.{written_stream, IsDoneWith, CanCarryFor, HasFlags, IsNearFor, delivered_for, IsReceivedAs, WroteNear, IsChain};
-ghost use Rattle.isdbt_cli.specs.CommandLines.{Command as SomeCommand, remux, code, receive, IsRemux, IsCode, IsCommand, Spells, IsFaultAt};
+ghost use Rattle.isdbt_cli.specs.CommandLines.{Command as SomeCommand, remux, code, receive, sample, IsRemux, IsCode, IsCommand, Spells, IsFaultAt};
 ghost use Rattle.setting_words.specs.SettingWords.{Word};
-ghost use Rattle.isdbt_cli.specs.Faults.{run_fault_of, run_fault_of_code, run_fault_of_receive};
+ghost use Rattle.isdbt_cli.specs.Faults.{run_fault_of, run_fault_of_code, run_fault_of_receive, run_fault_of_sample};
 ghost use Rattle.isdbt_cli.specs.Lines.{line_of, IsTold};
 ghost use Rattle.isdbt_cli.specs.Parsing.{command_of};
 ghost use Rattle.isdbt_cli.specs.FrameLimit.{frame_limit};
-ghost use Rattle.isdbt_cli.specs.Run.{layer_names, lone_name, names_of, Hold, SeatsAfter, EndsSo, AnswerOf, OpenFailed, CauseOf, RunCause, NothingRose, RefusesNone, IsDoneOrNoMemory, IsFree};
+ghost use Rattle.isdbt_cli.specs.Run.{layer_names, lone_name, no_names, names_of, Hold, SeatsAfter, EndsSo, AnswerOf, OpenFailed, CauseOf, RunCause, NothingRose, RefusesNone, IsDoneOrNoMemory, IsFree};
 
 use crate::command::Command;
 use crate::fault::{Outcome, RunFault};
 use crate::inputs::open_inputs;
 use crate::lines::write_line;
 use crate::words::Words;
-use coder_core::code;
+use coder_core::{code, show_bts};
 use edge_io::{Failed, Seat, Shelf, Sink};
-use isdbt_base::{Form, Plan, Reading, Writing};
+use isdbt_base::{Form, Guard, Mode, Plan, Reading, Writing};
 use remux_core::remux;
-use seg_receiver::{ReceiveFault, receive, receive_partial};
+use sample::sample;
+use seg_receiver::{Aim, ReceiveFault, aim_of, receive, receive_partial, show_cells};
 use std::alloc::Global;
 
 /// The most frames of a command.
@@ -103,39 +107,40 @@ fn run_code<H: Shelf, K: Sink>(
     }
 }
 
-/// Receives a stream of cells in full or for partial reception.
-fn receive_as<H: Shelf, K: Sink>(
+/// Writes what is asked of a stream of cells.
+fn read_cells<H: Shelf, K: Sink>(
     alloc: Global,
     how: Reading,
-    partial: bool,
+    aim: Aim,
     shelf: &mut H,
     out: &mut K,
 ) -> Result<u32, ReceiveFault>
     requires { H.is_open shelf.old seats.In ≡ true }
     ensures answer { (stream : List ℕ) → H.left shelf.old seats.In ≡ Some stream
-        → LoneAnswer receive_kind (receive_command (view_of how.form stream) partial stream frame_limit) (K.written out.old) (K.written out.new) (H.left shelf.new seats.In) result }
+        → LoneAnswer receive_kind (receive_command (view_of how.form stream) aim stream frame_limit) (K.written out.old) (K.written out.new) (H.left shelf.new seats.In) result }
     ensures still_open { H.is_open shelf.new ≡ H.is_open shelf.old }
     ensures cause { LoneCause receive_kind (H.faults shelf.old) (H.faults shelf.new) (K.faults out.old) (K.faults out.new) result }
     ensures room { K.room out.new ≡ K.room out.old }
 {
-    if partial {
-        return receive_partial(alloc, how, MOST_FRAMES, shelf, out);
+    match aim {
+        Aim::Full => receive(alloc, how, MOST_FRAMES, shelf, out),
+        Aim::Partial => receive_partial(alloc, how, MOST_FRAMES, shelf, out),
+        Aim::Lines => show_cells(alloc, how, MOST_FRAMES, shelf, out),
     }
-    receive(alloc, how, MOST_FRAMES, shelf, out)
 }
 
-/// Receives the cells of the input of this name, a stream of this version, in full or for partial reception.
-fn run_receive<H: Shelf, K: Sink>(
+/// Writes what is asked of the cells of the input of this name, a stream of this version.
+fn run_cells<H: Shelf, K: Sink>(
     alloc: Global,
     form: Form,
-    partial: bool,
+    aim: Aim,
     name: &str,
     shelf: &mut H,
     out: &mut K,
 ) -> Outcome
     requires { (seat : Place) → H.is_open shelf.old seat ≡ false }
     ensures answer { (stream : List ℕ) → H.holds shelf.old name.now ≡ Some stream
-        → EndsSo run_fault_of_receive (λ seat. K.written out.new ≡ K.written out.old) (LoneAnswer receive_kind (receive_command (view_of form stream) partial stream frame_limit) (K.written out.old) (K.written out.new) (H.left shelf.new seats.In)) result }
+        → EndsSo run_fault_of_receive (λ seat. K.written out.new ≡ K.written out.old) (LoneAnswer receive_kind (receive_command (view_of form stream) aim stream frame_limit) (K.written out.old) (K.written out.new) (H.left shelf.new seats.In)) result }
     ensures cause { EndsSo run_fault_of_receive (OpenFailed (lone_name name.now) (H.faults shelf.old) (H.faults shelf.new) (K.faults out.old) (K.faults out.new))
         (LoneCause receive_kind (H.faults shelf.old) (H.faults shelf.new) (K.faults out.old) (K.faults out.new)) result }
     ensures seats { SeatsAfter (lone_name name.now) (H.is_open shelf.new) result }
@@ -146,7 +151,49 @@ fn run_receive<H: Shelf, K: Sink>(
         Ok(()) => {}
         Err(Failed) => return Outcome::Fault(RunFault::OpenFault(Seat::In)),
     }
-    match receive_as(alloc, Reading { form }, partial, shelf, out) {
+    match read_cells(alloc, Reading { form }, aim, shelf, out) {
+        Ok(frames) => Outcome::Done(frames),
+        Err(fault) => Outcome::Fault(RunFault::from(fault)),
+    }
+}
+
+/// Shows the frames of broadcast packets of the input of this name.
+fn run_show_bts<H: Shelf, K: Sink>(
+    alloc: Global,
+    mode: Mode,
+    guard: Guard,
+    name: &str,
+    shelf: &mut H,
+    out: &mut K,
+) -> Outcome
+    requires { (seat : Place) → H.is_open shelf.old seat ≡ false }
+    ensures answer { (input : List ℕ) → H.holds shelf.old name.now ≡ Some input
+        → EndsSo run_fault_of_code (λ seat. K.written out.new ≡ K.written out.old) (LoneAnswer code_kind (show_command mode guard input frame_limit) (K.written out.old) (K.written out.new) (H.left shelf.new seats.In)) result }
+    ensures cause { EndsSo run_fault_of_code (OpenFailed (lone_name name.now) (H.faults shelf.old) (H.faults shelf.new) (K.faults out.old) (K.faults out.new))
+        (LoneCause code_kind (H.faults shelf.old) (H.faults shelf.new) (K.faults out.old) (K.faults out.new)) result }
+    ensures seats { SeatsAfter (lone_name name.now) (H.is_open shelf.new) result }
+    ensures unopened { (seat : Place) → result ≡ Outcome.Fault (RunFault.OpenFault seat) → out.new ≡ out.old }
+    ensures room { K.room out.new ≡ K.room out.old }
+{
+    match shelf.open(Seat::In, name) {
+        Ok(()) => {}
+        Err(Failed) => return Outcome::Fault(RunFault::OpenFault(Seat::In)),
+    }
+    match show_bts(alloc, mode, guard, MOST_FRAMES, shelf, out) {
+        Ok(frames) => Outcome::Done(frames),
+        Err(fault) => Outcome::Fault(RunFault::from(fault)),
+    }
+}
+
+/// Runs the sample of this number.
+fn run_sample<K: Sink>(alloc: Global, number: u16, out: &mut K) -> Outcome
+    ensures answer { EndsSo run_fault_of_sample (λ seat. K.written out.new ≡ K.written out.old) (SampleAnswer number (K.written out.old) (K.written out.new)) result }
+    ensures cause { (shelf : Cause → ℕ) → EndsSo run_fault_of_sample (OpenFailed no_names shelf shelf (K.faults out.old) (K.faults out.new))
+        (AnswerCause sample_kind (λ seat. ⊥) shelf shelf (K.faults out.old) (K.faults out.new)) result }
+    ensures opens_none { (seat : Place) → result ≡ Outcome.Fault (RunFault.OpenFault seat) → ⊥ }
+    ensures room { K.room out.new ≡ K.room out.old }
+{
+    match sample(alloc, number, out) {
         Ok(frames) => Outcome::Done(frames),
         Err(fault) => Outcome::Fault(RunFault::from(fault)),
     }
@@ -164,6 +211,7 @@ fn run_command<H: Shelf, K: Sink>(
     ensures answer { AnswerOf (command_of command.entry) (H.holds shelf.old) (K.written out.old) (K.written out.new) (H.left shelf.new) result }
     ensures cause { CauseOf (command_of command.entry) (H.faults shelf.old) (H.faults shelf.new) (K.faults out.old) (K.faults out.new) result }
     ensures seats { SeatsAfter (names_of (command_of command.entry)) (H.is_open shelf.new) result }
+    ensures unread { (number : ℕ) → command_of command.entry ≡ sample number → shelf.new ≡ shelf.old }
     ensures unopened { (seat : Place) → result ≡ Outcome.Fault (RunFault.OpenFault seat) → out.new ≡ out.old }
     ensures room { K.room out.new ≡ K.room out.old }
 {
@@ -174,7 +222,12 @@ fn run_command<H: Shelf, K: Sink>(
             form,
             partial,
             name,
-        } => run_receive(alloc, form, partial, name, shelf, out),
+        } => run_cells(alloc, form, aim_of(partial), name, shelf, out),
+        Command::ShowBts { mode, guard, name } => run_show_bts(
+            alloc, mode, guard, name, shelf, out,
+        ),
+        Command::ShowCells { form, name } => run_cells(alloc, form, Aim::Lines, name, shelf, out),
+        Command::Sample { number } => run_sample(alloc, number, out),
     }
 }
 
@@ -205,6 +258,12 @@ pub fn run<H: Shelf, K: Sink, E: Sink>(
     // Every named input is opened, and no other seat; at one that can't be opened it stops, and nothing is written.
     ensures seats { (c : SomeCommand) → Spells words.now c → SeatsAfter (names_of c) (H.is_open shelf.new) result }
     ensures unopened { (seat : Place) → result ≡ Outcome.Fault (RunFault.OpenFault seat) → out.new ≡ out.old }
+
+    // A sample reads nothing, and writes the three lines that are computed from the definitions.
+    ensures sample_alone { (number : ℕ) → Spells words.now (sample number) → shelf.new ≡ shelf.old }
+    ensures sample_lines { (number : ℕ) → Spells words.now (sample number)
+        → NothingRose no_names (H.faults shelf.old) (H.faults shelf.new) (K.faults out.old) (K.faults out.new)
+        → IsDoneWith sample_frames (sample_text number) (K.written out.old) (K.written out.new) result }
 
     // A fault of the outside is answered only where its count rose, and another answer only where none rose.
     ensures cause { RunCause words.now (H.faults shelf.old) (H.faults shelf.new) (K.faults out.old) (K.faults out.new) result }

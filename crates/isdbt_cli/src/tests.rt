@@ -5,7 +5,7 @@ use crate::run::run;
 use crate::testing::{
     End, FRAME, SINGLE, WELL, check_end, marked_packets, product_of, run_over, words_of,
 };
-use edge_io::{FileShelf, MemorySink};
+use edge_io::{FileShelf, MemorySink, QuietShelf};
 use std::fs;
 use std::test::Fail;
 
@@ -101,6 +101,20 @@ fn usage_at_word_three(rt: HostRuntime) -> Result<(), Fail> {
         };
         check_end(&rt, &ran, &end, &[], FRAME);
     }
+    Ok(())
+}
+
+/// The line finds no room: the status stays.
+#[test]
+fn usage_without_room_for_the_line(rt: HostRuntime) -> Result<(), Fail> {
+    let alloc = rt.alloc();
+    let words = words_of(alloc, &["remux", "1", "1/4", "A:14:qpsk:1/2:0", "A=a"])?;
+    let mut shelf = QuietShelf::new(alloc);
+    let mut out = MemorySink::new(alloc, 0)?;
+    let mut err = MemorySink::new(alloc, 0)?;
+    let outcome = run(alloc, &words, &mut shelf, &mut out, &mut err);
+    assert_eq!(rt; outcome.status(), 1);
+    assert_eq!(rt; err.bytes().len(), 0);
     Ok(())
 }
 

@@ -424,7 +424,7 @@ fn switched_plans(rt: HostRuntime) -> Result<(), Fail> {
             Command::Remux { plan, .. } | Command::Code { plan, .. } => check_switched(
                 &rt, &plan, row,
             ),
-            Command::Receive { .. } => return Err(Fail::from("the words are another command")),
+            _ => return Err(Fail::from("the words are another command")),
         }
     }
     Ok(())

@@ -1,9 +1,8 @@
 -- `code` refuses no frame of the broadcast packets of a plan's frames.
 use Rattle.std.proofs.Common.{◌≡◌, ℕ, zero, suc, ◌+◌, ◌-◌, ◌*◌, ◌≤◌, ◌<◌, Bool, true, false, List, [], ◌∷◌, length, Option, Some, None, refl, arith, ap, ◌∙◌, subst, inl, inr}
-use Rattle.std.specs.Prelude.{sum_by, slice_index, ◌==◌, nat_lt, map, if◌then◌else◌}
+use Rattle.std.specs.Prelude.{slice_index, ◌==◌, nat_lt, map, if◌then◌else◌}
 use Rattle.std.specs.List.{range_with_len}
 use Rattle.std.proofs.lemmas.Bool.{eq-eqb, ne_eqb, lt-ltb, le-ltb}
-use Rattle.std.proofs.lemmas.List.Sums.{sum_by-cons}
 use Rattle.isdbt_base.specs.declared.kinds.Layer.{Layer}
 use Rattle.isdbt_base.specs.Parameters.{layer_of, number_of}
 use Rattle.isdbt_base.specs.Numbers.{packets_per_frame}
@@ -18,10 +17,12 @@ use Rattle.coder_core.specs.declared.fault.CodeFault.{CodeFault}
 use Rattle.coder_core.specs.declared.fault.CodeFault.TheVariants.{TooLong}
 use Rattle.coder_core.specs.FrameChecks.{refusal}
 use Rattle.coder_core.specs.InputFrames.{first_head, slots_at, packets_before, frame_start, frame_at}
-use Rattle.coder_core.specs.CodeRefusals.{search_limit, packet_refusal, looked_at, no_head, search_refusal, has_byte_of, truncated, frame_refusal, code_refusal, is_there}
+use Rattle.coder_core.specs.CodeRefusals.{search_limit, packet_refusal, looked_at, no_head, search_refusal, has_byte_of, truncated, frame_refusal, plan_cut, code_refusal, is_there}
 use Rattle.coder_core.proofs.FirstCauses.{no_cause}
 use Rattle.coder_core.proofs.FoundHead.{refusal-found, there-found}
+use Rattle.coder_core.proofs.FrameStarts.{packets_before-suc}
 use Rattle.isdbt_base.proofs.PlanEpochs.{setting_accepted, at_countdown-le}
+use Rattle.coder_core.specs.Answers.{coding}
 use Rattle.coder_core.proofs.SearchEnds.{empty_input}
 use Rattle.remux_core.specs.Multiplex.{broadcast, frame_tag, multiplexed, written_frame}
 use Rattle.remux_core.specs.Parts.{IsGood}
@@ -34,37 +35,25 @@ use Rattle.seg_receiver.proofs.MultiplexedBytes.{multiplexed-packets}
 
 -- ---- lengths
 
-sum_range-suc : (g : ℕ → ℕ) (a n : ℕ) → sum_by g (range_with_len a (suc n)) ≡ sum_by g (range_with_len a n) + g (a + n)
-sum_range-suc g a zero = sum_by-cons g a [] ∙ ap (λ m. g m + 0) (let e : a ≡ a + 0 = omega arith in e) ∙ (let none : sum_by g (range_with_len a 0) ≡ 0 = refl in omega (arith, none))
-sum_range-suc g a (suc n) =
-    let e : a + 1 + n ≡ a + suc n = omega arith in
-    sum_by-cons g a (range_with_len (a + 1) (suc n))
-    ∙ ap (λ m. g a + m) (sum_range-suc g (a + 1) n ∙ ap (λ m. sum_by g (range_with_len (a + 1) n) + g m) e)
-    ∙ (let first = sum_by-cons g a (range_with_len (a + 1) n) in omega (arith, first))
-
-before-suc : (p : Schedule) (f : ℕ) → packets_before p (suc f) ≡ packets_before p f + slots_at p f
-unfolding packets_before
-before-suc p f = sum_range-suc (slots_at p) 0 f ∙ ap (λ g. sum_by (slots_at p) (range_with_len 0 f) + slots_at p g) (let e : 0 + f ≡ f = omega arith in e)
-
-before-more : (p : Schedule) (f n : ℕ) → packets_before p f + slots_at p f ≤ packets_before p (suc f + n)
+before-more : (p : Schedule) (f n : ℕ) → packets_before (slots_at p) f + slots_at p f ≤ packets_before (slots_at p) (suc f + n)
 before-more p f zero =
     let e : suc f + 0 ≡ suc f = omega arith in
-    let more = before-suc p f in
-    let same = ap (packets_before p) e in
+    let more = packets_before-suc (slots_at p) f in
+    let same = ap (packets_before (slots_at p)) e in
     omega (arith, more, same)
 before-more p f (suc n) =
     let e : suc f + suc n ≡ suc (suc f + n) = omega arith in
-    let more = before-suc p (suc f + n) in
-    let same = ap (packets_before p) e in
+    let more = packets_before-suc (slots_at p) (suc f + n) in
+    let same = ap (packets_before (slots_at p)) e in
     let so_far = before-more p f n in
     omega (arith, more, same, so_far)
 
-before-rises : (p : Schedule) (f count : ℕ) → f < count → packets_before p f + slots_at p f ≤ packets_before p count
+before-rises : (p : Schedule) (f count : ℕ) → f < count → packets_before (slots_at p) f + slots_at p f ≤ packets_before (slots_at p) count
 before-rises p f count lt =
     let e : suc f + (count - suc f) ≡ count = omega (arith, lt) in
-    subst (λ n. packets_before p f + slots_at p f ≤ packets_before p n) e (before-more p f (count - suc f))
+    subst (λ n. packets_before (slots_at p) f + slots_at p f ≤ packets_before (slots_at p) n) e (before-more p f (count - suc f))
 
-length-stream : (p : Schedule) (frames : FramePackets) (count : ℕ) → ArePackets p frames count → length (broadcast_stream p frames count) ≡ 204 * packets_before p count
+pub length-stream : (p : Schedule) (frames : FramePackets) (count : ℕ) → ArePackets p frames count → length (broadcast_stream p frames count) ≡ 204 * packets_before (slots_at p) count
 unfolding product packets_before
 length-stream p frames count packets =
     length-sized (broadcast p frames) (slots_at p) 204 0 count (λ k l m. length-broadcast p frames count k (sizes_of p frames count packets) (omega (arith, m)))
@@ -116,20 +105,20 @@ searched stream found fine =
 
 -- ---- the frames
 
-refusal-broadcast : (p : Schedule) (frames : FramePackets) (count f first : ℕ) → IsPlan p → ArePackets p frames count → f < count → refusal (at_frame p f).setting (at_frame p f).mode f first (broadcast p frames f) ≡ None
+pub refusal-broadcast : (p : Schedule) (frames : FramePackets) (count f first : ℕ) → IsPlan p → ArePackets p frames count → f < count → refusal (at_frame p f).setting (at_frame p f).mode f first (broadcast p frames f) ≡ None
 unfolding broadcast
 refusal-broadcast p frames count f first plan packets h =
     refusal-ordered_frame (at_frame p f).mode (at_frame p f).guard (at_frame p f).setting (frame_tag (at_frame p f) f) (frames f) f first (setting_accepted p f plan) (whole_packets p frames count f (sizes_of p frames count packets) h) (sync_bytes p frames count f packets h) (at_countdown-le p f)
 
-has_bytes : (p : Schedule) (frames : FramePackets) (count f : ℕ) → IsPlan p → ArePackets p frames count → f < count → has_byte_of p (broadcast_stream p frames count) 0 f ≡ true
+has_bytes : (p : Schedule) (frames : FramePackets) (count f : ℕ) → IsPlan p → ArePackets p frames count → f < count → has_byte_of (slots_at p) (broadcast_stream p frames count) 0 f ≡ true
 has_bytes p frames count f plan packets h =
     let len = length-stream p frames count packets in
     let some = slots-positive p f plan in
     let more = before-rises p f count h in
-    lt-ltb (frame_start p 0 f) (length (broadcast_stream p frames count)) (omega (arith, len, some, more))
+    lt-ltb (frame_start (slots_at p) 0 f) (length (broadcast_stream p frames count)) (omega (arith, len, some, more))
 
-all_read : (p : Schedule) (frames : FramePackets) (count : ℕ) → ArePackets p frames count → has_byte_of p (broadcast_stream p frames count) 0 count ≡ false
-all_read p frames count packets = (let len = length-stream p frames count packets in le-ltb (frame_start p 0 count) (length (broadcast_stream p frames count)) (omega (arith, len)))
+all_read : (p : Schedule) (frames : FramePackets) (count : ℕ) → ArePackets p frames count → has_byte_of (slots_at p) (broadcast_stream p frames count) 0 count ≡ false
+all_read p frames count packets = (let len = length-stream p frames count packets in le-ltb (frame_start (slots_at p) 0 count) (length (broadcast_stream p frames count)) (omega (arith, len)))
 
 where_there : (b : Bool) (o : Option CodeFault) → o ≡ None → (if b then o else None) ≡ None
 where_there true o e = e
@@ -138,18 +127,18 @@ where_there false o e = refl
 none_past : (b : Bool) (o : Option CodeFault) → b ≡ false → (if b then o else None) ≡ None
 none_past b o e = rw e refl
 
-frame_fine : (p : Schedule) (frames : FramePackets) (count limit f : ℕ) → IsPlan p → ArePackets p frames count → count ≤ limit → f < count → frame_refusal p (broadcast_stream p frames count) limit 0 f ≡ None
+frame_fine : (p : Schedule) (frames : FramePackets) (count limit f : ℕ) → IsPlan p → ArePackets p frames count → count ≤ limit → f < count → frame_refusal (plan_cut p) (broadcast_stream p frames count) limit 0 f ≡ None
 frame_fine p frames count limit f plan packets room h =
     let stream = broadcast_stream p frames count in
     let len = length-stream p frames count packets in
     let more = before-rises p f count h in
     let sizes = sizes_of p frames count packets in
-    where_there (has_byte_of p stream 0 f) (first_some ((if f == limit then Some TooLong else None) ∷ truncated p stream 0 f ∷ refusal (at_frame p f).setting (at_frame p f).mode f (0 + packets_before p f) (frame_at p stream 0 f) ∷ []))
-    (none_of_three (if f == limit then Some TooLong else None) (truncated p stream 0 f) (refusal (at_frame p f).setting (at_frame p f).mode f (0 + packets_before p f) (frame_at p stream 0 f))
+    where_there (has_byte_of (slots_at p) stream 0 f) (first_some ((if f == limit then Some TooLong else None) ∷ truncated (slots_at p) stream 0 f ∷ refusal (at_frame p f).setting (at_frame p f).mode f (0 + packets_before (slots_at p) f) (frame_at (slots_at p) stream 0 f) ∷ []))
+    (none_of_three (if f == limit then Some TooLong else None) (truncated (slots_at p) stream 0 f) (refusal (at_frame p f).setting (at_frame p f).mode f (0 + packets_before (slots_at p) f) (frame_at (slots_at p) stream 0 f))
     (none_unless (f == limit) TooLong (ne_eqb f limit (λ e. omega (arith, e, h, room))))
-    (none_unless (nat_lt (length stream) (frame_start p 0 f + 204 * slots_at p f)) _ (le-ltb (length stream) (frame_start p 0 f + 204 * slots_at p f) (omega (arith, len, more))))
-    (ap (refusal (at_frame p f).setting (at_frame p f).mode f (0 + packets_before p f)) (frame_at-broadcast p frames count f sizes h)
-    ∙ refusal-broadcast p frames count f (0 + packets_before p f) plan packets h))
+    (none_unless (nat_lt (length stream) (frame_start (slots_at p) 0 f + 204 * slots_at p f)) _ (le-ltb (length stream) (frame_start (slots_at p) 0 f + 204 * slots_at p f) (omega (arith, len, more))))
+    (ap (refusal (at_frame p f).setting (at_frame p f).mode f (0 + packets_before (slots_at p) f)) (frame_at-broadcast p frames count f sizes h)
+    ∙ refusal-broadcast p frames count f (0 + packets_before (slots_at p) f) plan packets h))
 
 -- ---- the outcome
 
@@ -160,14 +149,14 @@ some_accepted p frames count limit plan packets room some =
     let found = first_head-broadcast p frames count plan (sizes_of p frames count packets) some in
     let fine = searched stream found (first_fine p frames count plan packets some) in
     record {
-      before = λ f h. (refusal-found p stream limit 0 f found fine ∙ frame_fine p frames count limit f plan packets room h, there-found p stream 0 f found ∙ has_bytes p frames count f plan packets h);
-      at = refusal-found p stream limit 0 count found fine ∙ none_past (has_byte_of p stream 0 count) (first_some ((if count == limit then Some TooLong else None) ∷ truncated p stream 0 count ∷ refusal (at_frame p count).setting (at_frame p count).mode count (0 + packets_before p count) (frame_at p stream 0 count) ∷ [])) (all_read p frames count packets);
-      done = λ e. there-found p stream 0 count found ∙ all_read p frames count packets;
+      before = λ f h. (refusal-found (plan_cut p) stream limit 0 f found fine ∙ frame_fine p frames count limit f plan packets room h, there-found (slots_at p) stream 0 f found ∙ has_bytes p frames count f plan packets h);
+      at = refusal-found (plan_cut p) stream limit 0 count found fine ∙ none_past (has_byte_of (slots_at p) stream 0 count) (first_some ((if count == limit then Some TooLong else None) ∷ truncated (slots_at p) stream 0 count ∷ refusal (at_frame p count).setting (at_frame p count).mode count (0 + packets_before (slots_at p) count) (frame_at (slots_at p) stream 0 count) ∷ [])) (all_read p frames count packets);
+      done = λ e. there-found (slots_at p) stream 0 count found ∙ all_read p frames count packets;
     }
 
 pub accepted-broadcast : (p : Schedule) (frames : FramePackets) (count limit : ℕ) → IsPlan p → ArePackets p frames count → count ≤ limit
     → IsOutcome (code_refusal p (product (broadcast p frames) count) limit) (is_there p (product (broadcast p frames) count)) count None
-accepted-broadcast p frames zero limit plan packets room = (empty_input (record { v2 = false }) p (product (broadcast p frames) 0) limit (Some []) None (product-none (broadcast p frames)) refl).ended.outcome
+accepted-broadcast p frames zero limit plan packets room = (empty_input (coding (record { v2 = false }) p) (product (broadcast p frames) 0) limit (Some []) None (product-none (broadcast p frames)) refl).ended.outcome
 accepted-broadcast p frames (suc n) limit plan packets room = some_accepted p frames (suc n) limit plan packets room (omega arith)
 
 pub accepted-written : (p : Schedule) (input : Layer → List ℕ) (count limit : ℕ) → IsPlan p → ((x : Layer) → IsGood (input x)) → ((x : Layer) → IsBytes (input x)) → count ≤ limit

@@ -50,9 +50,12 @@ slots-fit (V1 m g) mode guard can =
     omega (arith, e, k)
 slots-fit V2 mode guard can = slots-most mode guard
 
+pub sizes-fit : (form : Form) (mode : Mode) (guard : Guard) → CanHave form mode guard → frame_size mode ≤ frame_size (largest_mode form)
+sizes-fit form mode guard can = (let n = carriers-fit form mode guard can in omega (arith, n))
+
 pub frame-fits : (form : Form) (mode : Mode) (guard : Guard) (b : ReceiveBuffers) → CanHave form mode guard → HasRoom form b → frame_size mode ≤ vec_len b.frame
 frame-fits form mode guard b can has =
-    let n = carriers-fit form mode guard can in
+    let n = sizes-fit form mode guard can in
     let room = has.frame in
     omega (arith, n, room)
 

@@ -21,7 +21,7 @@ use Rattle.coder_core.specs.FrameChecks.{information_in, layer_slots, slots_of, 
 use Rattle.bts_info.specs.Information.{layer_named}
 use Rattle.coder_core.specs.InputFrames.{first_head, slots_at, packets_before, frame_start, frame_at, packet_in, input_frames}
 use Rattle.coder_core.specs.SentCells.{sent_frame}
-use Rattle.coder_core.specs.CodeRefusals.{search_refusal, has_byte_of, truncated, frame_refusal, refusal_from, code_refusal, there_from, is_there, frames_from, coded_frame}
+use Rattle.coder_core.specs.CodeRefusals.{search_refusal, has_byte_of, truncated, frame_refusal, refusal_from, stream_refusal, there_from, has_frame, plan_cut, code_refusal, is_there, frames_from, coded_frame}
 use Rattle.coder_core.proofs.Codable.{can_code}
 use Rattle.coder_core.proofs.Gathered.{synced}
 use Rattle.coder_core.proofs.FoundHead.{there-found}
@@ -81,25 +81,25 @@ where_so true o e h = h
 where_so false o e h = absurd (cc)
 
 module _ (p : Schedule) (input : List ℕ) (limit head f : ℕ) (found : first_head input ≡ Some head) where
-  frame_fine : code_refusal p input limit f ≡ None → frame_refusal p input limit head f ≡ None
-  unfolding code_refusal
-  frame_fine fine = sym (ap (refusal_from p input limit f) found) ∙ second-none (if f == 0 then search_refusal input else None) (refusal_from p input limit f (first_head input)) fine
+  frame_fine : code_refusal p input limit f ≡ None → frame_refusal (plan_cut p) input limit head f ≡ None
+  unfolding stream_refusal
+  frame_fine fine = sym (ap (refusal_from (plan_cut p) input limit f) found) ∙ second-none (if f == 0 then search_refusal input else None) (refusal_from (plan_cut p) input limit f (first_head input)) fine
 
-  frame_codable : code_refusal p input limit f ≡ None → is_there p input f ≡ true → CanCode (at_frame p f).setting (at_frame p f).mode (frame_at p input head f)
+  frame_codable : code_refusal p input limit f ≡ None → is_there p input f ≡ true → CanCode (at_frame p f).setting (at_frame p f).mode (frame_at (slots_at p) input head f)
   frame_codable fine is =
-      can_code (at_frame p f).setting (at_frame p f).mode f (head + packets_before p f) (frame_at p input head f)
-      (last-none (if f == limit then Some TooLong else None) (truncated p input head f) (refusal (at_frame p f).setting (at_frame p f).mode f (head + packets_before p f) (frame_at p input head f))
-      (where_so (has_byte_of p input head f) _ (sym (there-found p input head f found) ∙ is) (frame_fine fine)))
+      can_code (at_frame p f).setting (at_frame p f).mode f (head + packets_before (slots_at p) f) (frame_at (slots_at p) input head f)
+      (last-none (if f == limit then Some TooLong else None) (truncated (slots_at p) input head f) (refusal (at_frame p f).setting (at_frame p f).mode f (head + packets_before (slots_at p) f) (frame_at (slots_at p) input head f))
+      (where_so (has_byte_of (slots_at p) input head f) _ (sym (there-found (slots_at p) input head f found) ∙ is) (frame_fine fine)))
 
 -- ---- all frames
 
 module _ (p : Schedule) (input : List ℕ) (limit head count : ℕ) (found : first_head input ≡ Some head) (passed : ArePassed (code_refusal p input limit) (is_there p input) count) where
   pub input-packets : IsBytes input → ArePackets p (input_frames p input head) count
   input-packets bytes f j x l h used k =
-      let frame = frame_at p input head f in
+      let frame = frame_at (slots_at p) input head f in
       let codable = frame_codable p input limit head f found (passed f h).0 (passed f h).1 in
       let counted : layer_count frame x ≡ packets_per_frame (at_frame p f).mode l = codable.counts x ∙ ap (number_of (packets_per_frame (at_frame p f).mode)) used in
-      (packet-is frame x j codable.sync (omega (arith, counted, k)), packet-bytes frame x j (All-take (λ b. b < 256) (204 * slots_at p f) (drop (frame_start p head f) input) (All-drop (λ b. b < 256) (frame_start p head f) input bytes)))
+      (packet-is frame x j codable.sync (omega (arith, counted, k)), packet-bytes frame x j (All-take (λ b. b < 256) (204 * slots_at p f) (drop (frame_start (slots_at p) head f) input) (All-drop (λ b. b < 256) (frame_start (slots_at p) head f) input bytes)))
 
 coded-is : (how : Writing) (p : Schedule) (input : List ℕ) (head f : ℕ) → first_head input ≡ Some head → coded_frame how p input f ≡ sent_frame how p (input_frames p input head) f
 unfolding coded_frame
@@ -119,8 +119,8 @@ coded-near form p input count limit head plan bytes passed carries found =
 
 -- where there is no head nothing is written
 none-there : (p : Schedule) (input : List ℕ) (f : ℕ) → first_head input ≡ None → is_there p input f ≡ false
-unfolding is_there
-none-there p input f none = ap (there_from p input f) none
+unfolding has_frame
+none-there p input f none = ap (there_from (slots_at p) input f) none
 
 pub coded-none : (how : Writing) (p : Schedule) (input : List ℕ) (count limit : ℕ) → ArePassed (code_refusal p input limit) (is_there p input) count → first_head input ≡ None → (count ≡ 0) × (product (coded_frame how p input) count ≡ [])
 coded-none how p input zero limit passed none = (refl, product-none (coded_frame how p input))

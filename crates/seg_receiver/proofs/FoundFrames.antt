@@ -53,10 +53,10 @@ pub slots-positive : (p : Schedule) (f : ℕ) → IsPlan p → 0 < slots_at p f
 slots-positive p f plan = (let e = total-below_slots (at_frame p f).mode (at_frame p f).guard (at_frame p f).setting (setting_accepted p f plan) in omega (arith, e))
 
 -- the bytes of frame f are its broadcast packets
-pub frame_at-broadcast : (p : Schedule) (frames : FramePackets) (count f : ℕ) → HaveSize p frames count → f < count → frame_at p (broadcast_stream p frames count) 0 f ≡ broadcast p frames f
+pub frame_at-broadcast : (p : Schedule) (frames : FramePackets) (count f : ℕ) → HaveSize p frames count → f < count → frame_at (slots_at p) (broadcast_stream p frames count) 0 f ≡ broadcast p frames f
 unfolding product packets_before
 frame_at-broadcast p frames count f sizes h =
-    cut_at (broadcast p frames) count f (frame_start p 0 f) (204 * slots_at p f) h
+    cut_at (broadcast p frames) count f (frame_start (slots_at p) 0 f) (204 * slots_at p f) h
     (length-sized (broadcast p frames) (slots_at p) 204 0 f (λ k l m. length-broadcast p frames count k sizes (omega (arith, m, h)))
     ∙ ap (λ n. 204 * n) (let e : sum_by (slots_at p) (range_with_len 0 f) ≡ 0 + sum_by (slots_at p) (range_with_len 0 f) = omega arith in e))
     (length-broadcast p frames count f sizes h)
@@ -80,10 +80,10 @@ some_piece : (p : Schedule) (frames : FramePackets) (count : ℕ) → IsPlan p �
 some_piece p frames count plan sizes h =
     let stream = broadcast_stream p frames count in
     let some = slots-positive p 0 plan in
-    let size : length (frame_at p stream 0 0) ≡ 204 * slots_at p 0 = ap length (frame_at-broadcast p frames count 0 sizes h) ∙ length-broadcast p frames count 0 sizes h in
-    let a = length-take (204 * slots_at p 0) (drop (frame_start p 0 0) stream) in
-    let b = length-drop (frame_start p 0 0) stream in
-    more (length stream) (frame_start p 0 0) (slots_at p 0) (length (frame_at p stream 0 0)) (length (drop (frame_start p 0 0) stream)) some size a b
+    let size : length (frame_at (slots_at p) stream 0 0) ≡ 204 * slots_at p 0 = ap length (frame_at-broadcast p frames count 0 sizes h) ∙ length-broadcast p frames count 0 sizes h in
+    let a = length-take (204 * slots_at p 0) (drop (frame_start (slots_at p) 0 0) stream) in
+    let b = length-drop (frame_start (slots_at p) 0 0) stream in
+    more (length stream) (frame_start (slots_at p) 0 0) (slots_at p 0) (length (frame_at (slots_at p) stream 0 0)) (length (drop (frame_start (slots_at p) 0 0) stream)) some size a b
   where
     more : (n start slots len rest : ℕ) → 0 < slots → len ≡ 204 * slots → len ≡ min (204 * slots) rest → rest ≡ n - start → 0 < (n + 203) / 204
     more n start slots len rest some size a b = omega (arith, some, size, a, b)

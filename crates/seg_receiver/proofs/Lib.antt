@@ -13,6 +13,7 @@ pub mod GoodFrames
 pub mod GoodHeads
 pub mod HeadAnswers
 pub mod InputDelivered
+pub mod ListingProgress
 pub mod MultiplexedBytes
 pub mod NearDelivered
 pub mod NearHeads
@@ -30,4 +31,6 @@ pub mod StableFrames
 pub mod StreamLaws
 pub mod SymbolPlaces
 pub mod TakenFrames
+pub mod UnreadStreams
+pub mod UnreadViews
 pub mod ViewLaws

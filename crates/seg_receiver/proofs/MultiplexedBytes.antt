@@ -18,7 +18,7 @@ use Rattle.seg_receiver.specs.Received.{received}
 use Rattle.seg_receiver.specs.Delivered.{CanCarry, delivered, ArePackets}
 use Rattle.seg_receiver.proofs.FoundFrames.{received-broadcast}
 
-null-packet : IsPacket null_packet
+pub null-packet : IsPacket null_packet
 unfolding null_packet
 null-packet = record { size = refl; sync = refl }
 

@@ -8,12 +8,15 @@ use Rattle.isdbt_base.specs.Bits.{bits_number}
 use Rattle.isdbt_base.specs.Parameters.{Parameters}
 use Rattle.isdbt_base.specs.Plans.{Schedule, at_frame, IsPlan}
 use Rattle.isdbt_base.specs.Outcome.{IsOutcome}
+use Rattle.tmcc_word.specs.Fields.{TmccFields}
 use Rattle.tmcc_word.specs.Words.{setting_field}
 use Rattle.tmcc_word.specs.Reading.{read}
+use Rattle.std.specs.declared.option.Option.{Option}
 use Rattle.coder_core.specs.SentCells.{plan_word, plan_info, frame_size}
 use Rattle.coder_core.proofs.PlanWords.{read-plan_word}
+use Rattle.seg_receiver.specs.Aims.{aim_of}
 use Rattle.seg_receiver.specs.CellStream.{View, AreInRow, NoBadHead}
-use Rattle.seg_receiver.specs.ReceiveRefusals.{receive_is_there, same_setting, expected, is_expected, behind_refusal, part_refusal, word_refusal, word_before, receive_refusal}
+use Rattle.seg_receiver.specs.ReceiveRefusals.{receive_is_there, same_setting, expected, is_expected, behind_refusal, reading_refusal, word_refusal, word_before, receive_refusal}
 use Rattle.seg_receiver.proofs.NextSettings.{next_setting-zero, setting-stays}
 
 -- ---- words of a plan
@@ -37,23 +40,23 @@ odd-turns f =
       | inr even ↦ (let e = eq-eqb (suc f % 2) 1 (let o = even.1 in omega (arith, o)) in rw (even.0, e) refl)
     ]
 
-part-fine : (f : ℕ) (partial : Bool) (s : Parameters) → (partial ≡ true → s.partial ≡ true) → part_refusal f partial s ≡ None
-part-fine f false s h = refl
-part-fine f true s h = rw (h refl) refl
+reading-fine : (f : ℕ) (partial : Bool) (before : Option (TmccFields × Bool)) (word : TmccFields × Bool) → behind_refusal f before word ≡ None → (partial ≡ true → word.0.now.partial ≡ true) → reading_refusal f (aim_of partial) before word ≡ None
+reading-fine f false before word behind asked = behind
+reading-fine f true before word behind asked = rw (behind, asked refl) refl
 
 -- behind the word of a frame that of the next is not refused
 behind-fine : (p : Schedule) (f : ℕ) → IsPlan p → behind_refusal (suc f) (Some (plan_info p f, f % 2 == 1)) (plan_info p (suc f), suc f % 2 == 1) ≡ None
 behind-fine p f plan = rw (odd-turns f, is_expected-plan p f plan) refl
 
 words-fine : (v : View) (p : Schedule) (partial : Bool) (f : ℕ) → IsPlan p → ((g : ℕ) → g ≤ f → v.word g ≡ plan_word p g) → (partial ≡ true → (at_frame p f).setting.partial ≡ true) →
-    word_refusal f partial (word_before v f) (read (v.word f)) ≡ None
+    word_refusal f (aim_of partial) (word_before v f) (read (v.word f)) ≡ None
 words-fine v p partial zero plan same asked =
     let word = ap read (same 0 (omega arith)) ∙ read-plan_word p 0 plan in
-    rw (word, part-fine 0 partial (at_frame p 0).setting asked) refl
+    rw word (reading-fine 0 partial None (plan_info p 0, 0 % 2 == 1) refl asked)
 words-fine v p partial (suc f) plan same asked =
     let word = ap read (same (suc f) (omega arith)) ∙ read-plan_word p (suc f) plan in
     let before = ap read (same f (omega arith)) ∙ read-plan_word p f plan in
-    rw (word, before, behind-fine p f plan, part-fine (suc f) partial (at_frame p (suc f)).setting asked) refl
+    rw (word, before) (reading-fine (suc f) partial (Some (plan_info p f, f % 2 == 1)) (plan_info p (suc f), suc f % 2 == 1) (behind-fine p f plan) asked)
 
 -- ---- frames
 
@@ -83,7 +86,7 @@ there v count f row whole h = lt-ltb (v.starts f) v.size (let before = rises v c
 -- no frame of a view in a row with a plan's words and no bad head is refused
 pub near_outcome : (v : View) (p : Schedule) (partial : Bool) (count limit : ℕ) → IsPlan p → AreInRow v count → NoBadHead v count → v.size ≡ v.starts count → ((f : ℕ) → f < count → v.word f ≡ plan_word p f) →
     ((f : ℕ) → f < count → partial ≡ true → (at_frame p f).setting.partial ≡ true) → count ≤ limit →
-    IsOutcome (receive_refusal v partial limit) (receive_is_there v) count None
+    IsOutcome (receive_refusal v (aim_of partial) limit) (receive_is_there v) count None
 unfolding receive_refusal
 near_outcome v p partial count limit plan row heads whole words asked few =
     let over : receive_is_there v count ≡ false = le-ltb (v.starts count) v.size (omega (arith, whole)) in

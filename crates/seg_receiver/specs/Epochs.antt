@@ -16,6 +16,10 @@ unfoldable pub epoch_start : (ℕ → List Bool) → ℕ → ℕ
 epoch_start words zero = zero
 epoch_start words (suc f) = if countdown_read (read (words f)) == 0 then suc f else epoch_start words f
 
+-- what the head of a frame must repeat behind a frame of this mode and guard interval, by the countdown of that one's word
+abbrev pub due_behind : Mode × Guard → TmccFields × Bool → Option (Mode × Guard)
+due_behind said word = if word.0.countdown == 0 then None else Some said
+
 -- the mode and the guard interval that the head of a frame must repeat, by those of the frames: those of the frame before, and none where the frame begins an epoch
 unfoldable pub epoch_head : (ℕ → List Bool) → (ℕ → Mode) → (ℕ → Guard) → ℕ → Option (Mode × Guard)
 epoch_head words mode guard zero = None

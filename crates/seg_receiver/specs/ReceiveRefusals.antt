@@ -1,5 +1,5 @@
 -- Which frames of a stream of cells a receiver refuses, and why.
-use Rattle.std.specs.Prelude.{ℕ, zero, suc, ◌+◌, ◌-◌, Bool, false, not, ◌&&◌, ◌==◌, nat_lt, Option, Some, None, Result, Ok, Err, [], ◌∷◌, if◌then◌else◌}
+use Rattle.std.specs.Prelude.{ℕ, zero, suc, ◌+◌, ◌-◌, Bool, false, ◌==◌, nat_lt, Option, Some, None, Result, Ok, Err, [], ◌∷◌, if◌then◌else◌}
 use Rattle.std.specs.Int.{from_bool}
 use Rattle.isdbt_base.specs.Bits.{bits_number}
 use Rattle.isdbt_base.specs.Parameters.{Parameters}
@@ -10,6 +10,8 @@ use Rattle.tmcc_word.specs.declared.fault.TmccFault.TheVariants as words
 use Rattle.tmcc_word.specs.Fields.{TmccFields}
 use Rattle.tmcc_word.specs.Words.{setting_field}
 use Rattle.tmcc_word.specs.Reading.{read, ok_part}
+use Rattle.seg_receiver.specs.declared.aim.Aim.{Aim}
+use Rattle.seg_receiver.specs.declared.aim.Aim.TheVariants.{Full, Partial, Lines}
 use Rattle.seg_receiver.specs.declared.fault.ReceiveFault.{ReceiveFault}
 use Rattle.seg_receiver.specs.declared.fault.ReceiveFault.TheVariants.{Truncated, BadHead, BadTmcc, Unannounced, NotPartial, TooLong}
 use Rattle.seg_receiver.specs.CellStream.{View}
@@ -38,14 +40,20 @@ behind_refusal f (Some before) word =
     if from_bool before.1 == from_bool word.1 then Some (BadTmcc f words.Sync)
     else if is_expected (expected before.0) word.0.now then None else Some (Unannounced f)
 
--- why a word that is read is refused with partial reception: its flag is clear
-abbrev pub part_refusal : ℕ → Bool → Parameters → Option ReceiveFault
-part_refusal f partial s = if partial && not s.partial then Some (NotPartial f) else None
+-- why a setting is refused with partial reception: its flag is clear
+abbrev pub part_refusal : ℕ → Parameters → Option ReceiveFault
+part_refusal f s = if s.partial then None else Some (NotPartial f)
 
--- why the word of frame f is refused: it isn't read, or it is refused behind the word before it, or with partial reception
-abbrev pub word_refusal : ℕ → Bool → Option (TmccFields × Bool) → Result (TmccFields × Bool) TmccFault → Option ReceiveFault
-word_refusal f partial before (Err reason) = Some (BadTmcc f reason)
-word_refusal f partial before (Ok word) = first_some (behind_refusal f before word ∷ part_refusal f partial word.0.now ∷ [])
+-- why a word that is read is refused, by what is asked: in full behind the word before it, with partial reception also by its flag, and never for lines
+abbrev pub reading_refusal : ℕ → Aim → Option (TmccFields × Bool) → TmccFields × Bool → Option ReceiveFault
+reading_refusal f Full before word = behind_refusal f before word
+reading_refusal f Partial before word = first_some (behind_refusal f before word ∷ part_refusal f word.0.now ∷ [])
+reading_refusal f Lines before word = None
+
+-- why the word of frame f is refused: it isn't read, or what it says is refused
+abbrev pub word_refusal : ℕ → Aim → Option (TmccFields × Bool) → Result (TmccFields × Bool) TmccFault → Option ReceiveFault
+word_refusal f aim before (Err reason) = Some (BadTmcc f reason)
+word_refusal f aim before (Ok word) = reading_refusal f aim before word
 
 -- what the word of the frame before frame f says, if there is such a frame and its word is read
 abbrev pub word_before : View → ℕ → Option (TmccFields × Bool)
@@ -61,13 +69,13 @@ abbrev pub head_refusal : ℕ → Option ℕ → Option ReceiveFault
 head_refusal f None = None
 head_refusal f (Some byte) = Some (BadHead f byte)
 
--- why frame f is refused, in full or with partial reception, with a limit on frames: it stands at the limit, it ends in its head, its head is refused, it ends behind its head, or its word is refused
-unfoldable pub receive_refusal : View → Bool → ℕ → ℕ → Option ReceiveFault
-receive_refusal v partial limit f =
+-- why frame f is refused, by what is asked, with a limit on frames: it stands at the limit, it ends in its head, its head is refused, it ends behind its head, or its word is refused
+unfoldable pub receive_refusal : View → Aim → ℕ → ℕ → Option ReceiveFault
+receive_refusal v aim limit f =
     if receive_is_there v f
     then first_some ((if f == limit then Some TooLong else None)
     ∷ cut_refusal v f (v.starts f + v.head)
     ∷ head_refusal f (v.bad_head f)
     ∷ cut_refusal v f (v.starts (f + 1))
-    ∷ word_refusal f partial (word_before v f) (read (v.word f)) ∷ [])
+    ∷ word_refusal f aim (word_before v f) (read (v.word f)) ∷ [])
     else None

@@ -1,6 +1,7 @@
 //! The buffers of a receiving.
 
-ghost use Rattle.std.specs.Prelude.{◌≡◌, IfOk};
+ghost use Rattle.std.specs.Prelude.{◌≡◌, IfOk, vec_len};
+ghost use Rattle.coder_core.specs.SentCells.{frame_size};
 ghost use Rattle.seg_receiver.specs.Buffers.{largest_mode, largest_guard, HasRoom};
 
 use cell_map::Cell;
@@ -30,13 +31,21 @@ fn largest(form: Form) -> (Mode, Guard)
     }
 }
 
+/// A buffer for the symbols of the largest frame that a stream of this version can have. Fails only if memory runs out.
+pub fn frame_buffer(alloc: Global, form: Form) -> Result<Vec<u8>, NoMemory>
+    ensures { IfOk result (λ b. vec_len b ≡ frame_size (largest_mode form)) }
+{
+    let (mode, _) = largest(form);
+    zeros(alloc, SYMBOLS * symbol_size(mode))
+}
+
 impl ReceiveBuffers {
     /// The buffers for a stream of this version. Fails only if memory runs out.
     pub fn open(alloc: Global, form: Form) -> Result<ReceiveBuffers, NoMemory>
         ensures { IfOk result (HasRoom form) }
     {
         let (mode, guard) = largest(form);
-        let frame = zeros(alloc, SYMBOLS * symbol_size(mode))?;
+        let frame = frame_buffer(alloc, form)?;
         let cells = vec![in alloc; Cell { i: 0, q: 0 }; 13 * carriers(mode) as usize]?;
         let out = zeros(alloc, BROADCAST_BYTES * slots(mode, guard) as usize)?;
         Ok(ReceiveBuffers { frame, cells, out })

@@ -2,8 +2,9 @@
 
 ghost use Rattle.std.specs.Prelude.{◌≡◌, Some, None, Ok, MatchResult};
 ghost use Rattle.tmcc_word.specs.Reading.{read};
-ghost use Rattle.seg_receiver.specs.ReceiveRefusals.{same_setting, is_expected, behind_refusal, word_refusal};
+ghost use Rattle.seg_receiver.specs.ReceiveRefusals.{same_setting, is_expected, behind_refusal, reading_refusal, word_refusal};
 
+use crate::aim::Aim;
 use crate::fault::ReceiveFault;
 use crate::words::{check_part, expected_setting};
 use isdbt_base::Setting;
@@ -51,18 +52,37 @@ fn check_behind(
     Ok(())
 }
 
-/// What the bits of a frame's word say, or why the word is refused behind that of the frame before, if there is one.
+/// Whether what a word says can stand, by what is asked: for lines each can.
+fn check_reading(
+    frame: u32,
+    aim: Aim,
+    before: &Option<(TmccInfo, bool)>,
+    word: &(TmccInfo, bool),
+) -> Result<(), ReceiveFault>
+    ensures { MatchResult result (λ stands. reading_refusal frame aim before.now word.now ≡ None) (λ fault. reading_refusal frame aim before.now word.now ≡ Some fault) }
+{
+    match aim {
+        Aim::Full => check_behind(frame, before, word),
+        Aim::Partial => {
+            check_behind(frame, before, word)?;
+            check_part(frame, &word.0.now)
+        }
+        Aim::Lines => Ok(()),
+    }
+}
+
+/// What the bits of a frame's word say, or why the word is refused, by what is asked and by the word of the frame before, if
+/// there is one.
 pub fn check_word(
     frame: u32,
-    partial: bool,
+    aim: Aim,
     before: &Option<(TmccInfo, bool)>,
     bits: &[bool; 204],
 ) -> Result<(TmccInfo, bool), ReceiveFault>
-    ensures { MatchResult result (λ word. (read bits.now ≡ Ok word) × (word_refusal frame partial before.now (read bits.now) ≡ None))
-        (λ fault. word_refusal frame partial before.now (read bits.now) ≡ Some fault) }
+    ensures { MatchResult result (λ word. (read bits.now ≡ Ok word) × (word_refusal frame aim before.now (read bits.now) ≡ None))
+        (λ fault. word_refusal frame aim before.now (read bits.now) ≡ Some fault) }
 {
     let word = read_word(bits).map_err(|reason| ReceiveFault::BadTmcc { frame, reason })?;
-    check_behind(frame, before, &word)?;
-    check_part(frame, partial, &word.0.now)?;
+    check_reading(frame, aim, before, &word)?;
     Ok(word)
 }

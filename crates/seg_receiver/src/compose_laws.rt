@@ -15,7 +15,7 @@ ghost use Rattle.gf_rs.specs.Codewords.{IsBytes};
 ghost use Rattle.remux_core.specs.Multiplex.{placed_before, multiplexed, packet_count, frame_delay, broadcast, written_frame};
 ghost use Rattle.remux_core.specs.Answers.{IsPlacedIn};
 ghost use Rattle.remux_core.specs.Parts.{IsGood};
-ghost use Rattle.coder_core.specs.InputFrames.{first_head, frame_at, input_frames};
+ghost use Rattle.coder_core.specs.InputFrames.{first_head, slots_at, frame_at, input_frames};
 ghost use Rattle.coder_core.specs.SentCells.{sent_frame};
 ghost use Rattle.coder_core.specs.CodeRefusals.{code_refusal, is_there, coded_frame};
 ghost use Rattle.seg_receiver.specs.CellStream.{view_of, writing_of};
@@ -27,7 +27,7 @@ ghost use Rattle.seg_receiver.specs.Composed.{broadcast_stream, HaveSize};
 /// first head at the first packet, the bytes of each frame, and each packet of each layer.
 pub fn found_law()
     ensures head { (p : Schedule) (frames : FramePackets) (count : ℕ) → IsPlan p → HaveSize p frames count → 0 < count → first_head (broadcast_stream p frames count) ≡ Some 0 }
-    ensures frame { (p : Schedule) (frames : FramePackets) (count f : ℕ) → IsPlan p → HaveSize p frames count → f < count → frame_at p (broadcast_stream p frames count) 0 f ≡ broadcast p frames f }
+    ensures frame { (p : Schedule) (frames : FramePackets) (count f : ℕ) → IsPlan p → HaveSize p frames count → f < count → frame_at (slots_at p) (broadcast_stream p frames count) 0 f ≡ broadcast p frames f }
     ensures packets { (p : Schedule) (frames : FramePackets) (count f j : ℕ) (x : Layer) (l : LayerParameters) → IsPlan p → HaveSize p frames count → f < count → layer_of (at_frame p f).setting x ≡ Some l → j < packets_per_frame (at_frame p f).mode l
         → input_frames p (broadcast_stream p frames count) 0 f x j ≡ frames f x j }
 {}

@@ -13,7 +13,7 @@ use crate::partial_receiver::PartialReceiver;
 use crate::receiver::Receiver;
 use bts_info::FrameTag;
 use cell_map::Cell;
-use isdbt_base::{Guard, Layer, Mode, NoMemory, Setting};
+use isdbt_base::{Guard, Mode, NoMemory, Setting};
 use std::alloc::Global;
 
 /// Receiver of one epoch.
@@ -43,10 +43,7 @@ pub fn open_receiver(
         return Ok(EpochReceiver::Full(receiver));
     }
     setting.acceptance_law();
-
-    // Layer A is always used.
-    let a = setting.layer(Layer::A).unwrap_or_default();
-    let receiver = PartialReceiver::open(alloc, &a, mode)?;
+    let receiver = PartialReceiver::open(alloc, &setting.a(), mode)?;
     Ok(EpochReceiver::Partial(receiver))
 }
 

@@ -5,6 +5,7 @@ ghost use Rattle.std.specs.declared.option.Option.{Option};
 ghost use Rattle.edge_io.specs.declared.shelf.Seat.TheVariants as seats;
 ghost use Rattle.edge_io.specs.FrameAnswers.{LoneCause, ReadingCause, AnswerRoom};
 ghost use Rattle.tmcc_word.specs.Fields.{TmccFields};
+ghost use Rattle.seg_receiver.specs.Aims.{aim_of};
 ghost use Rattle.seg_receiver.specs.Buffers.{CanHave, HasRoom};
 ghost use Rattle.seg_receiver.specs.CellStream.{view_of};
 ghost use Rattle.seg_receiver.specs.EpochReceiver.{symbols_of, IsReceiverOf, StandsFor};
@@ -14,11 +15,12 @@ ghost use Rattle.isdbt_base.specs.Parameters.{Parameters};
 ghost use Rattle.seg_receiver.specs.ReceiveAnswers.{receive_kind};
 ghost use Rattle.seg_receiver.specs.EpochAnswers.{Taken, TakeAnswer, AtEpoch, InEpoch, EpochAnswer, EndsPast};
 
+use crate::aim::aim_of;
 use crate::buffers::ReceiveBuffers;
 use crate::epoch_receiver::{EpochReceiver, open_receiver};
 use crate::fault::ReceiveFault;
 use crate::feeding::feed_held;
-use crate::frames::{CellFrame, read_first, read_further, write_received};
+use crate::frames::{CellFrame, read_further, read_held, write_received};
 use crate::heads::take_head;
 use edge_io::{Failed, Shelf, Sink};
 use isdbt_base::{Form, Guard, Mode};
@@ -79,10 +81,10 @@ fn next_frame<H: Shelf>(
     ensures still_open { H.is_open shelf.new ≡ H.is_open shelf.old }
     ensures room_kept { HasRoom epoch.form buffers.new }
     ensures answer { (stream : List ℕ) (start : ℕ) (first now : Option (List ℕ))
-        → InEpoch (view_of epoch.form stream) epoch.partial stream epoch.limit start number (epoch.mode, epoch.guard) last.now (H.left shelf.old seats.In) first now → (last.now.0.countdown ≡ 0 → ⊥)
-        → TakeAnswer (view_of epoch.form stream) epoch.partial stream epoch.limit number (epoch.mode, epoch.guard) (Option.Some last.now) buffers.new.frame.items first now (H.left shelf.new seats.In) result }
+        → InEpoch (view_of epoch.form stream) (aim_of epoch.partial) stream epoch.limit start number (epoch.mode, epoch.guard) last.now (H.left shelf.old seats.In) first now → (last.now.0.countdown ≡ 0 → ⊥)
+        → TakeAnswer (view_of epoch.form stream) (aim_of epoch.partial) stream epoch.limit number (epoch.mode, epoch.guard) (Option.Some last.now) buffers.new.frame.items first now (H.left shelf.new seats.In) result }
     ensures state { IfOk result (λ o. IfSome o (λ word. (stream : List ℕ) (start h : ℕ) (first now : Option (List ℕ))
-        → InEpoch (view_of epoch.form stream) epoch.partial stream epoch.limit start number (epoch.mode, epoch.guard) last.now (H.left shelf.old seats.In) first now → (last.now.0.countdown ≡ 0 → ⊥)
+        → InEpoch (view_of epoch.form stream) (aim_of epoch.partial) stream epoch.limit start number (epoch.mode, epoch.guard) last.now (H.left shelf.old seats.In) first now → (last.now.0.countdown ≡ 0 → ⊥)
         → start + h ≡ number → StandsFor receiver.old (view_of epoch.form stream).cell start h → StandsFor receiver.new (view_of epoch.form stream).cell start h)) }
     ensures symbols { IfOk result (λ o. IfSome o (λ word. symbols_of receiver.new ≡ 204)) }
     ensures kept { (partial : Bool) (m : SomeMode) (g : SomeGuard) (s : Parameters) → IsReceiverOf partial m g s receiver.old → IsReceiverOf partial m g s receiver.new }
@@ -96,7 +98,7 @@ fn next_frame<H: Shelf>(
     }
     let frame = CellFrame {
         form: epoch.form,
-        partial: epoch.partial,
+        aim: aim_of(epoch.partial),
         number,
         mode: epoch.mode,
         guard: epoch.guard,
@@ -133,8 +135,8 @@ fn receive_further<H: Shelf, K: Sink>(
     ensures past { (f : ℕ) → f < next → EndsPast f epoch.limit result }
     ensures answer { (stream : List ℕ) (start h : ℕ) (first : Option (List ℕ)) → start + h ≡ next → 0 < h
         → StandsFor receiver.old (view_of epoch.form stream).cell start h
-        → InEpoch (view_of epoch.form stream) epoch.partial stream epoch.limit start next (epoch.mode, epoch.guard) word.now (H.left shelf.old seats.In) first (K.written sink.old)
-        → EpochAnswer (view_of epoch.form stream) epoch.partial stream epoch.limit first (K.written sink.new) (H.left shelf.new seats.In) result }
+        → InEpoch (view_of epoch.form stream) (aim_of epoch.partial) stream epoch.limit start next (epoch.mode, epoch.guard) word.now (H.left shelf.old seats.In) first (K.written sink.old)
+        → EpochAnswer (view_of epoch.form stream) (aim_of epoch.partial) stream epoch.limit first (K.written sink.new) (H.left shelf.new seats.In) result }
     ensures cause { LoneCause receive_kind (H.faults shelf.old) (H.faults shelf.new) (K.faults sink.old) (K.faults sink.new) result }
     ensures sink_room { K.room sink.new ≡ K.room sink.old }
     ensures reached { AnswerRoom receive_kind (K.room sink.old) (K.written sink.new) result }
@@ -185,9 +187,9 @@ fn receive_held<H: Shelf, K: Sink>(
     ensures kept { HasRoom epoch.form buffers.new }
     ensures past { EndsPast number epoch.limit result }
     ensures answer { (stream : List ℕ) (last : Option (TmccFields × Bool)) (known first : Option (List ℕ))
-        → AtEpoch (view_of epoch.form stream) epoch.partial stream epoch.limit number last known first (K.written sink.old)
-        → Taken (view_of epoch.form stream) epoch.partial stream epoch.limit number (epoch.mode, epoch.guard) last word.now buffers.old.frame.items (H.left shelf.old seats.In)
-        → EpochAnswer (view_of epoch.form stream) epoch.partial stream epoch.limit first (K.written sink.new) (H.left shelf.new seats.In) result }
+        → AtEpoch (view_of epoch.form stream) (aim_of epoch.partial) stream epoch.limit number last known first (K.written sink.old)
+        → Taken (view_of epoch.form stream) (aim_of epoch.partial) stream epoch.limit number (epoch.mode, epoch.guard) last word.now buffers.old.frame.items (H.left shelf.old seats.In)
+        → EpochAnswer (view_of epoch.form stream) (aim_of epoch.partial) stream epoch.limit first (K.written sink.new) (H.left shelf.new seats.In) result }
     ensures cause { LoneCause receive_kind (H.faults shelf.old) (H.faults shelf.new) (K.faults sink.old) (K.faults sink.new) result }
     ensures sink_room { K.room sink.new ≡ K.room sink.old }
     ensures reached { AnswerRoom receive_kind (K.room sink.old) (K.written sink.new) result }
@@ -227,8 +229,8 @@ pub fn receive_epoch<H: Shelf, K: Sink>(
     ensures kept { HasRoom reception.form buffers.new }
     ensures past { EndsPast start.now.frame reception.limit result }
     ensures answer { (stream : List ℕ) (first : Option (List ℕ))
-        → AtEpoch (view_of reception.form stream) reception.partial stream reception.limit start.now.frame start.now.before (H.left shelf.old seats.In) first (K.written sink.old)
-        → EpochAnswer (view_of reception.form stream) reception.partial stream reception.limit first (K.written sink.new) (H.left shelf.new seats.In) result }
+        → AtEpoch (view_of reception.form stream) (aim_of reception.partial) stream reception.limit start.now.frame start.now.before (H.left shelf.old seats.In) first (K.written sink.old)
+        → EpochAnswer (view_of reception.form stream) (aim_of reception.partial) stream reception.limit first (K.written sink.new) (H.left shelf.new seats.In) result }
     ensures cause { LoneCause receive_kind (H.faults shelf.old) (H.faults shelf.new) (K.faults sink.old) (K.faults sink.new) result }
     ensures sink_room { K.room sink.new ≡ K.room sink.old }
     ensures reached { AnswerRoom receive_kind (K.room sink.old) (K.written sink.new) result }
@@ -244,12 +246,12 @@ pub fn receive_epoch<H: Shelf, K: Sink>(
     let partial = reception.partial;
     let frame = CellFrame {
         form,
-        partial,
+        aim: aim_of(partial),
         number,
         mode,
         guard,
     };
-    let word = match read_first(frame, &before, &mut buffers.frame, shelf) {
+    let word = match read_held(frame, &before, &mut buffers.frame, shelf) {
         Ok(Some(word)) => word,
         Ok(None) => return Ok(EpochEnd::Input(number)),
         Err(fault) => return Err(fault),

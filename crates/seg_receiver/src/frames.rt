@@ -8,6 +8,7 @@ ghost use Rattle.edge_io.specs.Known.{append_known, ReachesRoom};
 ghost use Rattle.edge_io.specs.Causes.{HasCause};
 ghost use Rattle.edge_io.specs.FrameAnswers.{ReadingCause};
 ghost use Rattle.coder_core.specs.SentCells.{frame_size};
+ghost use Rattle.seg_receiver.specs.declared.aim.Aim.TheVariants as aims;
 ghost use Rattle.seg_receiver.specs.CellStream.{FrameCells, view_of};
 ghost use Rattle.seg_receiver.specs.EpochReceiver.{mode_of, segments_of, symbols_of, frame_room, IsReceiverOf, StandsFor, epoch_frame};
 ghost use Rattle.isdbt_base.specs.declared.kinds.Mode.{Mode as SomeMode};
@@ -16,6 +17,7 @@ ghost use Rattle.isdbt_base.specs.Parameters.{Parameters};
 ghost use Rattle.seg_receiver.specs.ReceiveAnswers.{receive_kind};
 ghost use Rattle.seg_receiver.specs.EpochAnswers.{tag_of, FrameCheck, Progress, HeadTaken, TakeAnswer};
 
+use crate::aim::Aim;
 use crate::check_word::check_word;
 use crate::epoch_receiver::{EpochReceiver, put_frame, segments};
 use crate::fault::ReceiveFault;
@@ -28,12 +30,11 @@ use edge_io::{Failed, Seat, Shelf, Sink, fill, write_whole};
 use isdbt_base::{Form, Guard, Mode, SYMBOLS, carriers, symbol_size};
 use tmcc_word::TmccInfo;
 
-/// A frame of a stream of this version, received in full or for partial reception, whose head is taken, of this mode and
-/// guard interval.
+/// A frame of a stream of this version, of which this is asked, whose head is taken, of this mode and guard interval.
 #[derive(Clone, Copy)]
 pub struct CellFrame {
     pub form: Form,
-    pub partial: bool,
+    pub aim: Aim,
     pub number: u32,
     pub mode: Mode,
     pub guard: Guard,
@@ -49,8 +50,8 @@ fn word_read(
 ) -> Result<Option<(TmccInfo, bool)>, ReceiveFault>
     requires size { length symbols.now ≡ frame_size frame.mode }
     requires most { count ≤ length symbols.now }
-    ensures check { (stream : List ℕ) → FrameCheck frame.mode (view_of frame.form stream).head frame.partial frame.number before.now symbols.now count result }
-    ensures flag { IfOk result (λ o. IfSome o (λ word. frame.partial ≡ true → word.0.now.partial ≡ true)) }
+    ensures check { (stream : List ℕ) → FrameCheck frame.mode (view_of frame.form stream).head frame.aim frame.number before.now symbols.now count result }
+    ensures flag { IfOk result (λ o. IfSome o (λ word. frame.aim ≡ aims.Partial → word.0.now.partial ≡ true)) }
 {
     let over = head_bytes(frame.form) + count;
     if over == 0 {
@@ -64,15 +65,15 @@ fn word_read(
     }
     let word = check_word(
         frame.number,
-        frame.partial,
+        frame.aim,
         before,
         &word_in(symbols, frame.mode),
     )?;
     Ok(Some(word))
 }
 
-/// Reads the symbols of the first frame of an epoch into the front of a buffer, where they are held, and checks the frame.
-pub fn read_first<H: Shelf>(
+/// Reads the symbols of a frame into the front of a buffer, where they are held, and checks the frame.
+pub fn read_held<H: Shelf>(
     frame: CellFrame,
     before: &Option<(TmccInfo, bool)>,
     buffer: &mut [u8],
@@ -82,10 +83,10 @@ pub fn read_first<H: Shelf>(
     requires is_open { H.is_open shelf.old seats.In ≡ true }
     ensures still_open { H.is_open shelf.new ≡ H.is_open shelf.old }
     ensures answer { (stream : List ℕ) (limit : ℕ) (known first now : Option (List ℕ)) → frame.number < limit
-        → Progress (view_of frame.form stream) frame.partial stream limit frame.number before.now known first now
+        → Progress (view_of frame.form stream) frame.aim stream limit frame.number before.now known first now
         → HeadTaken (view_of frame.form stream) stream frame.number (frame.mode, frame.guard) (H.left shelf.old seats.In)
-        → TakeAnswer (view_of frame.form stream) frame.partial stream limit frame.number (frame.mode, frame.guard) before.now buffer.new first now (H.left shelf.new seats.In) result }
-    ensures flag { IfOk result (λ o. IfSome o (λ word. frame.partial ≡ true → word.0.now.partial ≡ true)) }
+        → TakeAnswer (view_of frame.form stream) frame.aim stream limit frame.number (frame.mode, frame.guard) before.now buffer.new first now (H.left shelf.new seats.In) result }
+    ensures flag { IfOk result (λ o. IfSome o (λ word. frame.aim ≡ aims.Partial → word.0.now.partial ≡ true)) }
     ensures cause { ReadingCause receive_kind (H.faults shelf.old) (H.faults shelf.new) result }
 {
     let symbols = &mut buffer[..SYMBOLS * symbol_size(frame.mode)];
@@ -112,9 +113,9 @@ pub fn read_further<H: Shelf>(
     requires is_open { H.is_open shelf.old seats.In ≡ true }
     ensures still_open { H.is_open shelf.new ≡ H.is_open shelf.old }
     ensures answer { (stream : List ℕ) (limit : ℕ) (known first now : Option (List ℕ)) → frame.number < limit
-        → Progress (view_of frame.form stream) frame.partial stream limit frame.number before.now known first now
+        → Progress (view_of frame.form stream) frame.aim stream limit frame.number before.now known first now
         → HeadTaken (view_of frame.form stream) stream frame.number (frame.mode, frame.guard) (H.left shelf.old seats.In)
-        → TakeAnswer (view_of frame.form stream) frame.partial stream limit frame.number (frame.mode, frame.guard) before.now buffer.new first now (H.left shelf.new seats.In) result }
+        → TakeAnswer (view_of frame.form stream) frame.aim stream limit frame.number (frame.mode, frame.guard) before.now buffer.new first now (H.left shelf.new seats.In) result }
     ensures state { IfOk result (λ o. IfSome o (λ word. (stream : List ℕ)
         → HeadTaken (view_of frame.form stream) stream frame.number (frame.mode, frame.guard) (H.left shelf.old seats.In)
         → (start h : ℕ) → start + h ≡ frame.number → StandsFor receiver.old (view_of frame.form stream).cell start h → StandsFor receiver.new (view_of frame.form stream).cell start h)) }

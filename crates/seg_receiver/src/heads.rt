@@ -6,6 +6,7 @@ ghost use Rattle.isdbt_base.specs.Heads.{head_read};
 ghost use Rattle.edge_io.specs.declared.shelf.Seat.TheVariants as seats;
 ghost use Rattle.edge_io.specs.FrameAnswers.{ReadingCause};
 ghost use Rattle.tmcc_word.specs.Fields.{TmccFields};
+ghost use Rattle.seg_receiver.specs.declared.aim.Aim.{Aim};
 ghost use Rattle.seg_receiver.specs.CellStream.{second_version, second_due, view_of};
 ghost use Rattle.seg_receiver.specs.Buffers.{CanHave};
 ghost use Rattle.seg_receiver.specs.HeadChecks.{other_byte, bad_byte};
@@ -66,9 +67,9 @@ fn take_second<H: Shelf>(
 ) -> Result<Option<(Mode, Guard)>, ReceiveFault>
     requires is_open { H.is_open shelf.old seats.In ≡ true }
     ensures still_open { H.is_open shelf.new ≡ H.is_open shelf.old }
-    ensures answer { (partial : Bool) (stream : List ℕ) (limit : ℕ) (last : Option (TmccFields × Bool)) (first now : Option (List ℕ)) → number < limit
-        → Progress (second_version stream) partial stream limit number last (H.left shelf.old seats.In) first now → second_due stream number ≡ due
-        → HeadAnswer (second_version stream) partial stream limit number first now (H.left shelf.new seats.In) result }
+    ensures answer { (aim : Aim) (stream : List ℕ) (limit : ℕ) (last : Option (TmccFields × Bool)) (first now : Option (List ℕ)) → number < limit
+        → Progress (second_version stream) aim stream limit number last (H.left shelf.old seats.In) first now → second_due stream number ≡ due
+        → HeadAnswer (second_version stream) aim stream limit number first now (H.left shelf.new seats.In) result }
     ensures cause { ReadingCause receive_kind (H.faults shelf.old) (H.faults shelf.new) result }
 {
     let mut head = [0; HEAD_BYTES];
@@ -102,9 +103,9 @@ pub fn take_head<H: Shelf>(
     requires is_open { H.is_open shelf.old seats.In ≡ true }
     ensures still_open { H.is_open shelf.new ≡ H.is_open shelf.old }
     ensures can_have { IfOk result (λ o. IfSome o (λ said. CanHave form said.0 said.1)) }
-    ensures answer { (partial : Bool) (stream : List ℕ) (limit : ℕ) (last : Option (TmccFields × Bool)) (first now : Option (List ℕ)) → number < limit
-        → Progress (view_of form stream) partial stream limit number last (H.left shelf.old seats.In) first now → DueIn (view_of form stream) number due
-        → HeadAnswer (view_of form stream) partial stream limit number first now (H.left shelf.new seats.In) result }
+    ensures answer { (aim : Aim) (stream : List ℕ) (limit : ℕ) (last : Option (TmccFields × Bool)) (first now : Option (List ℕ)) → number < limit
+        → Progress (view_of form stream) aim stream limit number last (H.left shelf.old seats.In) first now → DueIn (view_of form stream) number due
+        → HeadAnswer (view_of form stream) aim stream limit number first now (H.left shelf.new seats.In) result }
     ensures cause { ReadingCause receive_kind (H.faults shelf.old) (H.faults shelf.new) result }
 {
     match form {

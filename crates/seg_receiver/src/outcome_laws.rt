@@ -1,6 +1,6 @@
 //! Laws of which frames of a stream of cells are refused.
 
-ghost use Rattle.std.specs.Prelude.{◌≡◌, ℕ, ◌≤◌, true, false, None, List};
+ghost use Rattle.std.specs.Prelude.{◌≡◌, ℕ, ◌≤◌, true, None, List};
 ghost use Rattle.isdbt_base.specs.declared.kinds.Mode.{Mode};
 ghost use Rattle.isdbt_base.specs.declared.kinds.Guard.{Guard};
 ghost use Rattle.isdbt_base.specs.declared.stream.Form.{Form};
@@ -8,6 +8,7 @@ ghost use Rattle.isdbt_base.specs.Parameters.{Parameters, IsAccepted};
 ghost use Rattle.isdbt_base.specs.Plans.{Schedule, IsPlan};
 ghost use Rattle.isdbt_base.specs.Frames.{FramePackets};
 ghost use Rattle.isdbt_base.specs.Outcome.{IsOutcome};
+ghost use Rattle.seg_receiver.specs.declared.aim.Aim.TheVariants as aims;
 ghost use Rattle.seg_receiver.specs.CellStream.{View, first_version, view_of, AreInRow, NoBadHead};
 ghost use Rattle.seg_receiver.specs.Delivered.{IsNear, IsNearPartial};
 ghost use Rattle.seg_receiver.specs.ReceiveRefusals.{receive_is_there, same_setting, receive_refusal};
@@ -16,9 +17,9 @@ ghost use Rattle.seg_receiver.specs.ReceiveRefusals.{receive_is_there, same_sett
 /// refused, with partial reception neither: of as many as the limit allows all are there and passed, and none follows.
 pub fn near_outcome_law()
     ensures whole { (v : View) (p : Schedule) (frames : FramePackets) (count limit : ℕ) → IsPlan p → AreInRow v count → NoBadHead v count → IsNear v p frames count → count ≤ limit
-        → IsOutcome (receive_refusal v false limit) (receive_is_there v) count None }
+        → IsOutcome (receive_refusal v aims.Full limit) (receive_is_there v) count None }
     ensures partial { (v : View) (p : Schedule) (frames : FramePackets) (count limit : ℕ) → IsPlan p → AreInRow v count → NoBadHead v count → IsNearPartial v p frames count → count ≤ limit
-        → IsOutcome (receive_refusal v true limit) (receive_is_there v) count None }
+        → IsOutcome (receive_refusal v aims.Partial limit) (receive_is_there v) count None }
 {}
 
 /// No head of a stream that is near the cells of a plan is refused. In version 1 none is of any stream.

@@ -3,6 +3,8 @@
 ghost use Rattle.std.specs.Prelude.{◌≡◌, ℕ, List, ◌≤◌, ◌<◌, Some, true, false};
 ghost use Rattle.edge_io.specs.declared.shelf.Seat.TheVariants as seats;
 ghost use Rattle.edge_io.specs.FrameAnswers.{LoneAnswer, LoneCause, AnswerRoom};
+ghost use Rattle.seg_receiver.specs.declared.aim.Aim.TheVariants as aims;
+ghost use Rattle.seg_receiver.specs.Aims.{aim_of};
 ghost use Rattle.seg_receiver.specs.Buffers.{HasRoom};
 ghost use Rattle.seg_receiver.specs.CellStream.{view_of};
 ghost use Rattle.seg_receiver.specs.ReceiveAnswers.{receive_kind, receive_command};
@@ -10,7 +12,8 @@ ghost use Rattle.seg_receiver.specs.ReceiveAnswers.{receive_kind, receive_comman
 use crate::buffers::ReceiveBuffers;
 use crate::epochs::{EpochEnd, EpochStart, Reception, receive_epoch};
 use crate::fault::ReceiveFault;
-use edge_io::{Failed, Seat, Shelf, Sink, ends};
+use crate::limit::end_at_limit;
+use edge_io::{Shelf, Sink};
 use isdbt_base::Reading;
 use std::alloc::Global;
 
@@ -26,7 +29,7 @@ fn receive_epochs<H: Shelf, K: Sink>(
     requires room_for { HasRoom reception.form buffers.old }
     requires is_open { H.is_open shelf.old seats.In ≡ true }
     ensures answer { (stream : List ℕ) → H.left shelf.old seats.In ≡ Some stream
-        → LoneAnswer receive_kind (receive_command (view_of reception.form stream) reception.partial stream reception.limit) (K.written sink.old) (K.written sink.new) (H.left shelf.new seats.In) result }
+        → LoneAnswer receive_kind (receive_command (view_of reception.form stream) (aim_of reception.partial) stream reception.limit) (K.written sink.old) (K.written sink.new) (H.left shelf.new seats.In) result }
     ensures still_open { H.is_open shelf.new ≡ H.is_open shelf.old }
     ensures cause { LoneCause receive_kind (H.faults shelf.old) (H.faults shelf.new) (K.faults sink.old) (K.faults sink.new) result }
     ensures room { K.room sink.new ≡ K.room sink.old }
@@ -44,11 +47,7 @@ fn receive_epochs<H: Shelf, K: Sink>(
             Err(fault) => return Err(fault),
         }
     }
-    match ends(shelf, Seat::In) {
-        Ok(true) => Ok(reception.limit),
-        Ok(false) => Err(ReceiveFault::TooLong),
-        Err(Failed) => Err(ReceiveFault::ReadFault(Seat::In)),
-    }
+    end_at_limit(reception.limit, shelf)
 }
 
 /// A reception, with buffers of its own.
@@ -61,7 +60,7 @@ fn receive_stream<H: Shelf, K: Sink>(
     requires few { reception.limit ≤ 16777216 }
     requires is_open { H.is_open shelf.old seats.In ≡ true }
     ensures answer { (stream : List ℕ) → H.left shelf.old seats.In ≡ Some stream
-        → LoneAnswer receive_kind (receive_command (view_of reception.form stream) reception.partial stream reception.limit) (K.written sink.old) (K.written sink.new) (H.left shelf.new seats.In) result }
+        → LoneAnswer receive_kind (receive_command (view_of reception.form stream) (aim_of reception.partial) stream reception.limit) (K.written sink.old) (K.written sink.new) (H.left shelf.new seats.In) result }
     ensures still_open { H.is_open shelf.new ≡ H.is_open shelf.old }
     ensures cause { LoneCause receive_kind (H.faults shelf.old) (H.faults shelf.new) (K.faults sink.old) (K.faults sink.new) result }
     ensures room { K.room sink.new ≡ K.room sink.old }
@@ -97,7 +96,7 @@ pub fn receive<H: Shelf, K: Sink>(
     requires few { limit ≤ 16777216 }
     requires is_open { H.is_open shelf.old seats.In ≡ true }
     ensures answer { (stream : List ℕ) → H.left shelf.old seats.In ≡ Some stream
-        → LoneAnswer receive_kind (receive_command (view_of how.form stream) false stream limit) (K.written sink.old) (K.written sink.new) (H.left shelf.new seats.In) result }
+        → LoneAnswer receive_kind (receive_command (view_of how.form stream) aims.Full stream limit) (K.written sink.old) (K.written sink.new) (H.left shelf.new seats.In) result }
     ensures still_open { H.is_open shelf.new ≡ H.is_open shelf.old }
     ensures cause { LoneCause receive_kind (H.faults shelf.old) (H.faults shelf.new) (K.faults sink.old) (K.faults sink.new) result }
 
@@ -128,7 +127,7 @@ pub fn receive_partial<H: Shelf, K: Sink>(
     requires few { limit ≤ 16777216 }
     requires is_open { H.is_open shelf.old seats.In ≡ true }
     ensures answer { (stream : List ℕ) → H.left shelf.old seats.In ≡ Some stream
-        → LoneAnswer receive_kind (receive_command (view_of how.form stream) true stream limit) (K.written sink.old) (K.written sink.new) (H.left shelf.new seats.In) result }
+        → LoneAnswer receive_kind (receive_command (view_of how.form stream) aims.Partial stream limit) (K.written sink.old) (K.written sink.new) (H.left shelf.new seats.In) result }
     ensures still_open { H.is_open shelf.new ≡ H.is_open shelf.old }
     ensures cause { LoneCause receive_kind (H.faults shelf.old) (H.faults shelf.new) (K.faults sink.old) (K.faults sink.new) result }
 

@@ -19,11 +19,11 @@ pub fn expected_setting(info: &TmccInfo) -> Option<Setting>
     }
 }
 
-/// Whether a frame of this setting can be received, which with partial reception asks for the setting's flag.
-pub fn check_part(frame: u32, partial: bool, setting: &Setting) -> Result<(), ReceiveFault>
-    ensures { MatchResult result (λ received. part_refusal frame partial setting.now ≡ None) (λ fault. part_refusal frame partial setting.now ≡ Some fault) }
+/// Whether a frame of this setting can be received partially, which asks for the setting's flag.
+pub fn check_part(frame: u32, setting: &Setting) -> Result<(), ReceiveFault>
+    ensures { MatchResult result (λ received. part_refusal frame setting.now ≡ None) (λ fault. part_refusal frame setting.now ≡ Some fault) }
 {
-    if partial && !setting.partial() {
+    if !setting.partial() {
         return Err(ReceiveFault::NotPartial { frame });
     }
     Ok(())

@@ -1,7 +1,7 @@
 use Rattle.std.proofs.Common.{◌≡◌, ℕ, ◌+◌, ◌*◌, ◌≤◌, ◌<◌, List, true, false, take, vec_items}
 use Rattle.isdbt_base.specs.Epochs.{begins_later}
 use Rattle.edge_io.specs.declared.shelf.Seat.TheVariants as seats
-use Rattle.coder_core.specs.InputFrames.{packets_before}
+use Rattle.coder_core.specs.InputFrames.{slots_at, packets_before}
 use Rattle.coder_core.specs.Answers.{Found}
 use Rattle.coder_core.specs.Buffers.{HasRoom}
 use Rattle.coder_core.specs.FrameSteps.{IsOfFrame, AtFrame}
@@ -10,7 +10,7 @@ use Rattle.coder_core.proofs.coding.code_frames.Given as goal
 abbrev pub invariant-loop-number : goal.invariant-loop-number
 invariant-loop-number g l = record {
   coder : begins_later l.sending.plan.now l.number ≡ false → IsOfFrame l.coder l.sending.plan.now l.number;
-  place : l.first_packet ≡ l.span.head + packets_before l.sending.plan.now l.number;
+  place : l.first_packet ≡ l.span.head + packets_before (slots_at l.sending.plan.now) l.number;
   few : l.first_packet ≤ 65536 + 5120 * l.number;
   held_few : l.held ≤ 204;
   held_later : 0 < l.number → l.held ≡ 0;

@@ -1,7 +1,7 @@
 use Rattle.std.proofs.Common.{◌≡◌, ℕ, List, Ok, Some, None, Option, ◌++◌, length, take, drop, vec_len, sym, ap, ◌∙◌, subst, arith}
 use Rattle.std.proofs.lemmas.List.{take_at}
 use Rattle.edge_io.specs.declared.shelf.Seat.TheVariants as seats
-use Rattle.coder_core.specs.Answers.{SearchAnswer}
+use Rattle.coder_core.specs.Answers.{coding, SearchAnswer}
 use Rattle.coder_core.proofs.FrameStarts.{slots-some}
 use Rattle.coder_core.proofs.FrameRoom.{frame_fits}
 use Rattle.coder_core.proofs.SearchEnds.{empty_input, search_ended}
@@ -11,11 +11,11 @@ pub returns-in-Ok-None-clause-answer : goal.returns-in-Ok-None-clause-answer
 returns-in-Ok-None-clause-answer g c = λ input told.
     let P : Option ℕ → Type 0 = λ o. SearchAnswer input c.find_head.new.packet (g.H.Shelf.left c.find_head.new.shelf seats.In) (Ok o) in
     let none : P None = subst P c.in-Ok-None.field-0-is (c.in-Ok-None.ensures.answer input told) in
-    empty_input _ _ input _ _ _ none.0 none.1
+    empty_input (coding c.args.sending.how c.args.sending.plan.now) input _ _ _ none.0 none.1
 
 pub returns-in-Err-clause-answer : goal.returns-in-Err-clause-answer
 returns-in-Err-clause-answer g c = λ input told.
-    search_ended _ _ input _ c.find_head.new.packet _ _ c.in-Err.fault c.requires.some (c.in-Err.ensures.answer input told)
+    search_ended (coding c.args.sending.how c.args.sending.plan.now) input _ _ _ c.find_head.new.packet c.in-Err.fault (slots-some c.args.sending.plan.now 0) c.requires.some (c.in-Err.ensures.answer input told)
 
 pub put-requires : goal.put-requires
 put-requires g c =

@@ -7,10 +7,10 @@ use Rattle.coder_core.specs.FrameChecks.{CanCode}
 use Rattle.coder_core.specs.InputFrames.{slots_at, input_frames}
 use Rattle.coder_core.specs.CodeRefusals.{coded_frame}
 use Rattle.coder_core.specs.Coder.{mode_of, guard_of, setting_of, IsFrameOf}
-use Rattle.coder_core.specs.FrameSteps.{Progress, TakeAnswer}
+use Rattle.coder_core.specs.FrameSteps.{Progress, Taken, StepAnswer, coding_run}
 use Rattle.coder_core.proofs.FrameRoom.{frame_fits, cells_fit}
-use Rattle.coder_core.proofs.CodeProgress.{wants_memory, write_failed}
-use Rattle.coder_core.proofs.EpochSteps.{of_next, is_frame, cells_are, coded, wrote_all, wrote_some}
+use Rattle.coder_core.proofs.CodeProgress.{wrote_all, wrote_some, wants_memory, write_failed}
+use Rattle.coder_core.proofs.EpochSteps.{of_next, is_frame, cells_are, coded}
 use Rattle.coder_core.proofs.frames.code_frame.Goals as goal
 
 -- what was read into the buffer stands in its front
@@ -43,11 +43,12 @@ returns-in-Ok-false-clause-answer g c = λ input limit head first less place at.
     let p = c.args.sending.plan.now in
     let f = c.args.place.number in
     let now = g.K.Sink.written c.args.sink.now in
-    let P : List ℕ → Type 0 = λ xs. Progress how p input limit head f c.args.place.held xs (g.H.Shelf.left c.args.shelf.now seats.In) first now in
+    let r = coding_run how p input limit head in
+    let P : List ℕ → Type 0 = λ xs. Progress r f c.args.place.held xs (g.H.Shelf.left c.args.shelf.now seats.In) first now in
     let so_far : P c.deref_mut.result.now = subst P (sym c.deref_mut.ensures.value) at.so_far in
     let frame = take (204 * slots_at p f) c.take_frame.new.buffer in
     let left' = g.H.Shelf.left c.take_frame.new.shelf seats.In in
-    let Q : Bool → Type 0 = λ b. TakeAnswer how p input limit head f frame left' first now (Ok b) in
+    let Q : Bool → Type 0 = λ b. StepAnswer r f (Taken r f frame left' first now) left' first now (Ok b) in
     subst Q c.in-Ok-false.field-0-test (c.in-Ok-false.ensures.answer how input limit head first now less place so_far)
 
 pub returns-in-Err-clause-answer : goal.returns-in-Err-clause-answer
@@ -56,7 +57,8 @@ returns-in-Err-clause-answer g c = λ input limit head first less place at.
     let p = c.args.sending.plan.now in
     let f = c.args.place.number in
     let now = g.K.Sink.written c.args.sink.now in
-    let P : List ℕ → Type 0 = λ xs. Progress how p input limit head f c.args.place.held xs (g.H.Shelf.left c.args.shelf.now seats.In) first now in
+    let r = coding_run how p input limit head in
+    let P : List ℕ → Type 0 = λ xs. Progress r f c.args.place.held xs (g.H.Shelf.left c.args.shelf.now seats.In) first now in
     let so_far : P c.deref_mut.result.now = subst P (sym c.deref_mut.ensures.value) at.so_far in
     c.in-Err.ensures.answer how input limit head first now less place so_far
 
@@ -66,13 +68,14 @@ returns-in-Err-turn_to-clause-answer g c = λ input limit head first less place 
     let p = c.args.sending.plan.now in
     let f = c.args.place.number in
     let now = g.K.Sink.written c.args.sink.now in
-    let P : List ℕ → Type 0 = λ xs. Progress how p input limit head f c.args.place.held xs (g.H.Shelf.left c.args.shelf.now seats.In) first now in
+    let r = coding_run how p input limit head in
+    let P : List ℕ → Type 0 = λ xs. Progress r f c.args.place.held xs (g.H.Shelf.left c.args.shelf.now seats.In) first now in
     let so_far : P c.deref_mut.result.now = subst P (sym c.deref_mut.ensures.value) at.so_far in
     let frame = take (204 * slots_at p f) c.take_frame.new.buffer in
     let left' = g.H.Shelf.left c.take_frame.new.shelf seats.In in
-    let Q : Bool → Type 0 = λ b. TakeAnswer how p input limit head f frame left' first now (Ok b) in
+    let Q : Bool → Type 0 = λ b. StepAnswer r f (Taken r f frame left' first now) left' first now (Ok b) in
     let taken : Q true = subst Q c.in-Ok-true.field-0-test (c.in-Ok-true.ensures.answer how input limit head first now less place so_far) in
-    inr (wants_memory how p input limit head f frame left' first now c.in-Err-turn_to.ensures.opens taken)
+    inr (wants_memory r f frame left' first now c.in-Err-turn_to.ensures.opens taken)
 
 pub slice_bounds-frame-end : goal.slice_bounds-frame-end
 slice_bounds-frame-end g c =
@@ -129,11 +132,12 @@ returns-in-Ok-write_cells-clause-answer g c = λ input limit head first less pla
     let p = c.args.sending.plan.now in
     let f = c.args.place.number in
     let now = g.K.Sink.written c.args.sink.now in
-    let P : List ℕ → Type 0 = λ xs. Progress how p input limit head f c.args.place.held xs (g.H.Shelf.left c.args.shelf.now seats.In) first now in
+    let r = coding_run how p input limit head in
+    let P : List ℕ → Type 0 = λ xs. Progress r f c.args.place.held xs (g.H.Shelf.left c.args.shelf.now seats.In) first now in
     let so_far : P c.deref_mut.result.now = subst P (sym c.deref_mut.ensures.value) at.so_far in
     let frame = take (204 * slots_at p f) c.take_frame.new.buffer in
     let left' = g.H.Shelf.left c.take_frame.new.shelf seats.In in
-    let Q : Bool → Type 0 = λ b. TakeAnswer how p input limit head f frame left' first now (Ok b) in
+    let Q : Bool → Type 0 = λ b. StepAnswer r f (Taken r f frame left' first now) left' first now (Ok b) in
     let taken : Q true = subst Q c.in-Ok-true.field-0-test (c.in-Ok-true.ensures.answer how input limit head first now less place so_far) in
     let buffer = c.take_frame.new.buffer in
     let most = vec_len c.args.buffers.now.frame in
@@ -147,7 +151,7 @@ returns-in-Ok-write_cells-clause-answer g c = λ input limit head first less pla
     let start = (at_frame p f).start in
     let stands = c.in-Ok.ensures.stands frames at.stands in
     let is = subst (λ (xs : List ℕ). IsFrameOf (setting_of c') (mode_of c') xs frames (start + (f - start))) (sym held) (is_frame how p input limit head f frame left' first now (setting_of c') (mode_of c') taken) in
-    let cells = cells_are c' how p input head f taken.found of in
+    let cells = cells_are c' how p input head f taken.whole.found of in
     let wrote = wrote_all _ (coded_frame how p input f) now after cells (c.in-Ok-write_cells.ensures.ok frames start (f - start) stands is) in
     coded how p input limit head f c.write_cells.new.coder frame _ left' first now after c.acceptance_law.ensures taken wrote (c.in-Ok-write_cells.ensures.state frames start (f - start) stands is)
 
@@ -157,11 +161,12 @@ returns-in-Err-write_cells-clause-answer g c = λ input limit head first less pl
     let p = c.args.sending.plan.now in
     let f = c.args.place.number in
     let now = g.K.Sink.written c.args.sink.now in
-    let P : List ℕ → Type 0 = λ xs. Progress how p input limit head f c.args.place.held xs (g.H.Shelf.left c.args.shelf.now seats.In) first now in
+    let r = coding_run how p input limit head in
+    let P : List ℕ → Type 0 = λ xs. Progress r f c.args.place.held xs (g.H.Shelf.left c.args.shelf.now seats.In) first now in
     let so_far : P c.deref_mut.result.now = subst P (sym c.deref_mut.ensures.value) at.so_far in
     let frame = take (204 * slots_at p f) c.take_frame.new.buffer in
     let left' = g.H.Shelf.left c.take_frame.new.shelf seats.In in
-    let Q : Bool → Type 0 = λ b. TakeAnswer how p input limit head f frame left' first now (Ok b) in
+    let Q : Bool → Type 0 = λ b. StepAnswer r f (Taken r f frame left' first now) left' first now (Ok b) in
     let taken : Q true = subst Q c.in-Ok-true.field-0-test (c.in-Ok-true.ensures.answer how input limit head first now less place so_far) in
     let buffer = c.take_frame.new.buffer in
     let most = vec_len c.args.buffers.now.frame in
@@ -175,7 +180,7 @@ returns-in-Err-write_cells-clause-answer g c = λ input limit head first less pl
     let start = (at_frame p f).start in
     let stands = c.in-Ok.ensures.stands frames at.stands in
     let is = subst (λ (xs : List ℕ). IsFrameOf (setting_of c') (mode_of c') xs frames (start + (f - start))) (sym held) (is_frame how p input limit head f frame left' first now (setting_of c') (mode_of c') taken) in
-    let cells = cells_are c' how p input head f taken.found of in
+    let cells = cells_are c' how p input head f taken.whole.found of in
     let failed = c.in-Err-write_cells.ensures.some frames start (f - start) stands is in
     let part = wrote_some _ (coded_frame how p input f) failed.0 now after cells failed.1 failed.2 in
-    write_failed how p input limit head f failed.0 frame left' first now after taken part.0 part.1
+    write_failed r f failed.0 frame left' first now after taken part.0 part.1

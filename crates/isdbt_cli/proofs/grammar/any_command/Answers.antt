@@ -25,8 +25,18 @@ returns-in-receive c =
     whole_line (codes "receive") (map string_bytes c.args.list.now) c.new-words.result c.word.new.self c.in_ok-word.field-0.now c.receive.result c.new-words.ensures
     c.in_ok-word.ensures.ok c.in-receive.is c.receive.ensures
 
+pub returns-in-show : goal.returns-in-show
+returns-in-show c =
+    whole_line (codes "show") (map string_bytes c.args.list.now) c.new-words.result c.word.new.self c.in_ok-word.field-0.now c.show.result c.new-words.ensures
+    c.in_ok-word.ensures.ok c.in-show.is c.show.ensures
+
+pub returns-in-sample : goal.returns-in-sample
+returns-in-sample c =
+    whole_line (codes "sample") (map string_bytes c.args.list.now) c.new-words.result c.word.new.self c.in_ok-word.field-0.now c.sample.result c.new-words.ensures
+    c.in_ok-word.ensures.ok c.in-sample.is c.sample.ensures
+
 pub returns-in_default : goal.returns-in_default
 returns-in_default c =
     fault_at (map string_bytes c.args.list.now) 0 (subst (λ (u : Unread). IsStuck AnyCommand u 0) c.new-words.ensures
     (no_command c.new-words.result c.word.new.self c.in_ok-word.field-0.now 0 (subst (λ (u : Unread). 0 ≡ u.place)
-    (sym c.new-words.ensures) refl) c.in_ok-word.ensures.ok c.in_default.not-remux c.in_default.not-code c.in_default.not-receive))
+    (sym c.new-words.ensures) refl) c.in_ok-word.ensures.ok c.in_default.not-remux c.in_default.not-code c.in_default.not-receive c.in_default.not-show c.in_default.not-sample))

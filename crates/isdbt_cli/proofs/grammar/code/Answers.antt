@@ -5,7 +5,7 @@ use Rattle.isdbt_base.specs.declared.stream.Writing.{Writing}
 use Rattle.isdbt_cli.specs.CommandLines.{IsName}
 use Rattle.isdbt_cli.specs.Parsing.{Follows}
 use Rattle.isdbt_cli.proofs.Stuck.{stuck_word}
-use Rattle.isdbt_cli.proofs.PlanLines.{input_words}
+use Rattle.isdbt_cli.proofs.CommandWords.{input_words}
 use Rattle.isdbt_cli.proofs.CodeSpelling.{follows_some, name_follows, stuck_version, spells}
 use Rattle.isdbt_cli.proofs.grammar.code.Goals as goal
 

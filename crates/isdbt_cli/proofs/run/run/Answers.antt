@@ -5,11 +5,11 @@ use Rattle.coder_core.specs.SentCells.{sent_frame}
 use Rattle.remux_core.specs.Multiplex.{multiplexed}
 use Rattle.seg_receiver.proofs.AcceptedStream.{accepted-written}
 use Rattle.isdbt_cli.specs.Chain.{written_stream, delivered_for}
-use Rattle.isdbt_cli.specs.CommandLines.{remux, code, receive}
+use Rattle.isdbt_cli.specs.CommandLines.{remux, code, receive, sample}
 use Rattle.isdbt_cli.specs.FrameLimit.{frame_limit}
 use Rattle.isdbt_cli.specs.Parsing.{command_of}
 use Rattle.isdbt_cli.proofs.OnePlace.{no_place, one_command}
-use Rattle.isdbt_cli.proofs.RunOutcomes.{ok_usage, fault_usage, same_answer, same_cause, same_seats, complete, good, coded, given, coded_done}
+use Rattle.isdbt_cli.proofs.RunOutcomes.{ok_usage, fault_usage, same_answer, same_cause, same_seats, complete, sampled, good, coded, given, coded_done}
 use Rattle.isdbt_cli.proofs.Chains.{near_received, near_stream, near_cells, chain, coded_multiplex, wrote_near}
 use Rattle.isdbt_cli.proofs.run.run.Goals as goal
 
@@ -24,6 +24,15 @@ returns-in-Ok-clause-answer g c = λ d spelled. same_answer (command_of c.in-Ok.
 
 pub returns-in-Ok-clause-seats : goal.returns-in-Ok-clause-seats
 returns-in-Ok-clause-seats g c = λ d spelled. same_seats (command_of c.in-Ok.command) d _ _ (one_command c.args.words.now (command_of c.in-Ok.command) d c.in-Ok.ensures spelled) c.run_command-outcome.ensures.seats
+
+pub returns-in-Ok-clause-sample_alone : goal.returns-in-Ok-clause-sample_alone
+returns-in-Ok-clause-sample_alone g c = λ number spelled. c.run_command-outcome.ensures.unread number (one_command c.args.words.now (command_of c.in-Ok.command) (sample number) c.in-Ok.ensures spelled)
+
+pub returns-in-Ok-clause-sample_lines : goal.returns-in-Ok-clause-sample_lines
+returns-in-Ok-clause-sample_lines g c = λ number spelled none.
+    let same = one_command c.args.words.now (command_of c.in-Ok.command) (sample number) c.in-Ok.ensures spelled in
+    sampled (g.H.Shelf.holds c.args.shelf.now) _ _ (g.H.Shelf.left c.run_command-outcome.new.shelf) _ _ _ _ c.run_command-outcome.result number
+    (same_answer (command_of c.in-Ok.command) (sample number) _ _ _ _ _ same c.run_command-outcome.ensures.answer) (same_cause (command_of c.in-Ok.command) (sample number) _ _ _ _ _ same c.run_command-outcome.ensures.cause) none
 
 pub returns-in-Ok-clause-complete : goal.returns-in-Ok-clause-complete
 returns-in-Ok-clause-complete g c = λ d spelled none free.
@@ -80,6 +89,12 @@ returns-in-Err-clause-answer g c = λ d spelled. absurd (no_place _ d _ spelled 
 
 pub returns-in-Err-clause-seats : goal.returns-in-Err-clause-seats
 returns-in-Err-clause-seats g c = λ d spelled. absurd (no_place _ d _ spelled c.in-Err.ensures)
+
+pub returns-in-Err-clause-sample_alone : goal.returns-in-Err-clause-sample_alone
+returns-in-Err-clause-sample_alone g c = λ number spelled. absurd (no_place _ (sample number) _ spelled c.in-Err.ensures)
+
+pub returns-in-Err-clause-sample_lines : goal.returns-in-Err-clause-sample_lines
+returns-in-Err-clause-sample_lines g c = λ number spelled none. absurd (no_place _ (sample number) _ spelled c.in-Err.ensures)
 
 pub returns-in-Err-clause-complete : goal.returns-in-Err-clause-complete
 returns-in-Err-clause-complete g c = λ d spelled none free. absurd (no_place _ d _ spelled c.in-Err.ensures)

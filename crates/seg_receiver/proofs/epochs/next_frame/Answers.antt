@@ -4,9 +4,11 @@ use Rattle.std.proofs.lemmas.List.{take_at}
 use Rattle.isdbt_base.specs.declared.kinds.Mode.{Mode}
 use Rattle.isdbt_base.specs.declared.kinds.Guard.{Guard}
 use Rattle.edge_io.specs.declared.shelf.Seat.TheVariants as seats
+use Rattle.seg_receiver.specs.declared.aim.Aim.{Aim}
+use Rattle.seg_receiver.specs.Aims.{aim_of}
 use Rattle.seg_receiver.specs.CellStream.{view_of}
 use Rattle.seg_receiver.specs.EpochReceiver.{StandsFor}
-use Rattle.seg_receiver.specs.EpochAnswers.{HeadTaken, HeadAnswer, TakeAnswer, InEpoch}
+use Rattle.seg_receiver.specs.EpochAnswers.{Progress, HeadTaken, HeadAnswer, TakeAnswer, InEpoch}
 use Rattle.seg_receiver.proofs.BufferRoom.{frame-fits, cells-fit_of}
 use Rattle.seg_receiver.proofs.EpochParts.{mode-is}
 use Rattle.seg_receiver.proofs.EpochProgress.{next_due, next_head}
@@ -16,29 +18,31 @@ use Rattle.seg_receiver.proofs.epochs.next_frame.Goals as goal
 pub returns-in-Ok-None-clause-answer : goal.returns-in-Ok-None-clause-answer
 returns-in-Ok-None-clause-answer g c = λ stream start first now so_far other.
     let e = c.args.epoch in
-    let due = next_due (view_of e.form stream) e.partial stream e.limit start c.args.number (e.mode, e.guard) c.args.last.now _ first now so_far other in
-    let P : Option (Mode × Guard) → Type 0 = λ o. HeadAnswer (view_of e.form stream) e.partial stream e.limit c.args.number first now (g.H.Shelf.left c.take_head.new.shelf seats.In) (Ok o) in
-    subst P c.in-Ok-None.field-0-is (c.in-Ok-None.ensures.answer e.partial stream e.limit (Some c.args.last.now) first now c.requires.below so_far.so_far due)
+    let due = next_due (view_of e.form stream) (aim_of e.partial) stream e.limit start c.args.number (e.mode, e.guard) c.args.last.now _ first now so_far other in
+    let P : Option (Mode × Guard) → Type 0 = λ o. HeadAnswer (view_of e.form stream) (aim_of e.partial) stream e.limit c.args.number first now (g.H.Shelf.left c.take_head.new.shelf seats.In) (Ok o) in
+    subst P c.in-Ok-None.field-0-is (c.in-Ok-None.ensures.answer (aim_of e.partial) stream e.limit (Some c.args.last.now) first now c.requires.below so_far.so_far due)
 
 pub returns-in-Err-clause-answer : goal.returns-in-Err-clause-answer
 returns-in-Err-clause-answer g c = λ stream start first now so_far other.
     let e = c.args.epoch in
-    let due = next_due (view_of e.form stream) e.partial stream e.limit start c.args.number (e.mode, e.guard) c.args.last.now _ first now so_far other in
-    c.in-Err.ensures.answer e.partial stream e.limit (Some c.args.last.now) first now c.requires.below so_far.so_far due
+    let due = next_due (view_of e.form stream) (aim_of e.partial) stream e.limit start c.args.number (e.mode, e.guard) c.args.last.now _ first now so_far other in
+    c.in-Err.ensures.answer (aim_of e.partial) stream e.limit (Some c.args.last.now) first now c.requires.below so_far.so_far due
 
 pub returns-clause-answer : goal.returns-clause-answer
 returns-clause-answer g c = λ stream start first now so_far other.
     let e = c.args.epoch in
     let v = view_of e.form stream in
-    let due = next_due v e.partial stream e.limit start c.args.number (e.mode, e.guard) c.args.last.now _ first now so_far other in
-    let P : Option (Mode × Guard) → Type 0 = λ o. HeadAnswer v e.partial stream e.limit c.args.number first now (g.H.Shelf.left c.take_head.new.shelf seats.In) (Ok o) in
-    let head : P (Some c.in-Ok-Some.field-0-0) = subst P c.in-Ok-Some.field-0-is (c.in-Ok-Some.ensures.answer e.partial stream e.limit (Some c.args.last.now) first now c.requires.below so_far.so_far due) in
-    let here = next_head v e.partial stream e.limit start c.args.number (e.mode, e.guard) c.in-Ok-Some.field-0-0 c.args.last.now _ _ first now (laid e.form stream) so_far other head in
+    let due = next_due v (aim_of e.partial) stream e.limit start c.args.number (e.mode, e.guard) c.args.last.now _ first now so_far other in
+    let P : Option (Mode × Guard) → Type 0 = λ o. HeadAnswer v (aim_of e.partial) stream e.limit c.args.number first now (g.H.Shelf.left c.take_head.new.shelf seats.In) (Ok o) in
+    let head : P (Some c.in-Ok-Some.field-0-0) = subst P c.in-Ok-Some.field-0-is (c.in-Ok-Some.ensures.answer (aim_of e.partial) stream e.limit (Some c.args.last.now) first now c.requires.below so_far.so_far due) in
+    let here = next_head v (aim_of e.partial) stream e.limit start c.args.number (e.mode, e.guard) c.in-Ok-Some.field-0-0 c.args.last.now _ _ first now (laid e.form stream) so_far other head in
     let frame = c.read_further.new.buffer in
     let size : length frame ≡ vec_len c.args.buffers.now.frame = c.read_further.auto.buffer ∙ c.deref_mut.ensures.len in
     let held = take_at frame (drop (length frame) c.args.buffers.now.frame.items) (vec_len c.args.buffers.now.frame) size in
-    let Q : List ℕ → Type 0 = λ xs. TakeAnswer v e.partial stream e.limit c.args.number (e.mode, e.guard) (Some c.args.last.now) xs first now (g.H.Shelf.left c.read_further.new.shelf seats.In) c.read_further.result in
-    subst Q (sym held) (c.read_further.ensures.answer stream e.limit _ first now c.requires.below so_far.so_far here)
+    let Q : List ℕ → Type 0 = λ xs. TakeAnswer v (aim_of e.partial) stream e.limit c.args.number (e.mode, e.guard) (Some c.args.last.now) xs first now (g.H.Shelf.left c.read_further.new.shelf seats.In) c.read_further.result in
+    let R : Aim → Type 0 = λ aim. Progress v aim stream e.limit c.args.number (Some c.args.last.now) (g.H.Shelf.left c.args.shelf.now seats.In) first now
+    → TakeAnswer v aim stream e.limit c.args.number (e.mode, e.guard) (Some c.args.last.now) frame first now (g.H.Shelf.left c.read_further.new.shelf seats.In) c.read_further.result in
+    subst Q (sym held) (subst R c.aim_of.ensures (λ so_far. c.read_further.ensures.answer stream e.limit _ first now c.requires.below so_far here) so_far.so_far)
 
 -- where all of a frame came, more follows
 if_more : {T E : Type 0} (P Q : Type 0) (r : _) → (P → Q) → IfOk {T = Option T} {E = E} r (λ o. IfSome o (λ word. P)) → IfOk {T = Option T} {E = E} r (λ o. IfSome o (λ word. Q))
@@ -55,15 +59,15 @@ returns-clause-state g c =
     if_more
     ((stream : List ℕ) → HeadTaken (view_of e.form stream) stream number (e.mode, e.guard) (g.H.Shelf.left c.take_head.new.shelf seats.In)
     → (start h : ℕ) → start + h ≡ number → StandsFor old (view_of e.form stream).cell start h → StandsFor new (view_of e.form stream).cell start h)
-    ((stream : List ℕ) (start h : ℕ) (first now : Option (List ℕ)) → InEpoch (view_of e.form stream) e.partial stream e.limit start number (e.mode, e.guard) c.args.last.now (g.H.Shelf.left c.args.shelf.now seats.In) first now → (c.args.last.now.0.countdown ≡ 0 → ⊥)
+    ((stream : List ℕ) (start h : ℕ) (first now : Option (List ℕ)) → InEpoch (view_of e.form stream) (aim_of e.partial) stream e.limit start number (e.mode, e.guard) c.args.last.now (g.H.Shelf.left c.args.shelf.now seats.In) first now → (c.args.last.now.0.countdown ≡ 0 → ⊥)
     → start + h ≡ number → StandsFor old (view_of e.form stream).cell start h → StandsFor new (view_of e.form stream).cell start h)
     c.read_further.result
     (λ state stream start h first now so_far other is stands.
     let v = view_of e.form stream in
-    let due = next_due v e.partial stream e.limit start number (e.mode, e.guard) c.args.last.now _ first now so_far other in
-    let P : Option (Mode × Guard) → Type 0 = λ o. HeadAnswer v e.partial stream e.limit number first now (g.H.Shelf.left c.take_head.new.shelf seats.In) (Ok o) in
-    let head : P (Some c.in-Ok-Some.field-0-0) = subst P c.in-Ok-Some.field-0-is (c.in-Ok-Some.ensures.answer e.partial stream e.limit (Some c.args.last.now) first now c.requires.below so_far.so_far due) in
-    let here = next_head v e.partial stream e.limit start number (e.mode, e.guard) c.in-Ok-Some.field-0-0 c.args.last.now _ _ first now (laid e.form stream) so_far other head in
+    let due = next_due v (aim_of e.partial) stream e.limit start number (e.mode, e.guard) c.args.last.now _ first now so_far other in
+    let P : Option (Mode × Guard) → Type 0 = λ o. HeadAnswer v (aim_of e.partial) stream e.limit number first now (g.H.Shelf.left c.take_head.new.shelf seats.In) (Ok o) in
+    let head : P (Some c.in-Ok-Some.field-0-0) = subst P c.in-Ok-Some.field-0-is (c.in-Ok-Some.ensures.answer (aim_of e.partial) stream e.limit (Some c.args.last.now) first now c.requires.below so_far.so_far due) in
+    let here = next_head v (aim_of e.partial) stream e.limit start number (e.mode, e.guard) c.in-Ok-Some.field-0-0 c.args.last.now _ _ first now (laid e.form stream) so_far other head in
     state stream here start h is stands)
     c.read_further.ensures.state
 

@@ -6,6 +6,7 @@ use Rattle.isdbt_base.specs.declared.kinds.Mode.{Mode}
 use Rattle.isdbt_base.specs.declared.kinds.Guard.{Guard}
 use Rattle.edge_io.specs.declared.shelf.Seat.TheVariants as seats
 use Rattle.tmcc_word.specs.Fields.{TmccFields}
+use Rattle.seg_receiver.specs.Aims.{aim_of}
 use Rattle.seg_receiver.specs.CellStream.{view_of}
 use Rattle.seg_receiver.specs.EpochReceiver.{IsReceiverOf, StandsFor}
 use Rattle.seg_receiver.specs.ReceiveAnswers.{given_frame}
@@ -36,18 +37,18 @@ loop-number-init g c = record {
 pub returns-then-last-eq0-clause-answer : goal.returns-then-last-eq0-clause-answer
 returns-then-last-eq0-clause-answer g c = λ stream start h first place some stands so_far.
     let going = c.loop-number.invariant.told stream start h first place some stands so_far in
-    ends-epoch (view_of c.args.epoch.form stream) c.args.epoch.partial stream c.args.epoch.limit start c.loop-number.number (c.args.epoch.mode, c.args.epoch.guard) c.loop-number.last _ first _ going.so_far (sym (ap (λ (p : TmccFields × Bool). p.0.countdown) c.last.view_is) ∙ c.if-last-eq0.true)
+    ends-epoch (view_of c.args.epoch.form stream) (aim_of c.args.epoch.partial) stream c.args.epoch.limit start c.loop-number.number (c.args.epoch.mode, c.args.epoch.guard) c.loop-number.last _ first _ going.so_far (sym (ap (λ (p : TmccFields × Bool). p.0.countdown) c.last.view_is) ∙ c.if-last-eq0.true)
 
 pub returns-clause-answer : goal.returns-clause-answer
 returns-clause-answer g c = λ stream start h first place some stands so_far.
     let going = c.loop-number.invariant.told stream start h first place some stands so_far in
     let end : c.loop-number.number ≡ c.args.epoch.limit = omega arith in
-    ends-at_limit (view_of c.args.epoch.form stream) c.args.epoch.partial stream c.args.epoch.limit start c.loop-number.number (c.args.epoch.mode, c.args.epoch.guard) c.loop-number.last _ first _ end going.so_far
+    ends-at_limit (view_of c.args.epoch.form stream) (aim_of c.args.epoch.partial) stream c.args.epoch.limit start c.loop-number.number (c.args.epoch.mode, c.args.epoch.guard) c.loop-number.last _ first _ end going.so_far
 
 pub returns-in-Ok-None-clause-answer : goal.returns-in-Ok-None-clause-answer
 returns-in-Ok-None-clause-answer g c = λ stream start h first place some stands so_far.
     let going = c.loop-number.invariant.told stream start h first place some stands so_far in
-    let P : Option (TmccFields × Bool) → Type 0 = λ o. TakeAnswer (view_of c.args.epoch.form stream) c.args.epoch.partial stream c.args.epoch.limit c.loop-number.number (c.args.epoch.mode, c.args.epoch.guard) (Some c.loop-number.last) c.next_frame.new.buffers.frame.items first (g.K.Sink.written c.loop-number.sink) (g.H.Shelf.left c.next_frame.new.shelf seats.In) (Ok o) in
+    let P : Option (TmccFields × Bool) → Type 0 = λ o. TakeAnswer (view_of c.args.epoch.form stream) (aim_of c.args.epoch.partial) stream c.args.epoch.limit c.loop-number.number (c.args.epoch.mode, c.args.epoch.guard) (Some c.loop-number.last) c.next_frame.new.buffers.frame.items first (g.K.Sink.written c.loop-number.sink) (g.H.Shelf.left c.next_frame.new.shelf seats.In) (Ok o) in
     let other = λ (e : c.loop-number.last.0.countdown ≡ 0). c.if-last-eq0.false (ap (λ (p : TmccFields × Bool). p.0.countdown) c.last.view_is ∙ e) in
     subst P c.in-Ok-None.field-0-is (c.in-Ok-None.ensures.answer stream start first (g.K.Sink.written c.loop-number.sink) going.so_far other)
 
@@ -71,19 +72,19 @@ returns-in-Err-write_received-clause-answer g c = λ stream start h first place 
     let from = going.from in
     let other = λ (e : c.loop-number.last.0.countdown ≡ 0). c.if-last-eq0.false (ap (λ (p : TmccFields × Bool). p.0.countdown) c.last.view_is ∙ e) in
     let here : start + (number - start) ≡ number = omega (arith, from) in
-    let P : Option (TmccFields × Bool) → Type 0 = λ o. TakeAnswer v c.args.epoch.partial stream c.args.epoch.limit number said (Some c.loop-number.last) frame first (g.K.Sink.written c.loop-number.sink) (g.H.Shelf.left c.next_frame.new.shelf seats.In) (Ok o) in
+    let P : Option (TmccFields × Bool) → Type 0 = λ o. TakeAnswer v (aim_of c.args.epoch.partial) stream c.args.epoch.limit number said (Some c.loop-number.last) frame first (g.K.Sink.written c.loop-number.sink) (g.H.Shelf.left c.next_frame.new.shelf seats.In) (Ok o) in
     let taken : P (Some word) = subst P c.in-Ok-Some.field-0-is (c.in-Ok-Some.ensures.answer stream start first (g.K.Sink.written c.loop-number.sink) going.so_far other) in
-    let Q : Option (TmccFields × Bool) → Type 0 = λ o. IfSome o (λ word. (stream : List ℕ) (start h : ℕ) (first now : Option (List ℕ)) → InEpoch (view_of c.args.epoch.form stream) c.args.epoch.partial stream c.args.epoch.limit start number said c.loop-number.last (g.H.Shelf.left c.loop-number.shelf seats.In) first now
+    let Q : Option (TmccFields × Bool) → Type 0 = λ o. IfSome o (λ word. (stream : List ℕ) (start h : ℕ) (first now : Option (List ℕ)) → InEpoch (view_of c.args.epoch.form stream) (aim_of c.args.epoch.partial) stream c.args.epoch.limit start number said c.loop-number.last (g.H.Shelf.left c.loop-number.shelf seats.In) first now
     → (c.loop-number.last.0.countdown ≡ 0 → ⊥) → start + h ≡ number → StandsFor c.loop-number.receiver (view_of c.args.epoch.form stream).cell start h → StandsFor c.next_frame.new.receiver (view_of c.args.epoch.form stream).cell start h) in
     let state : Q (Some word) = subst Q c.in-Ok-Some.field-0-is c.in-Ok-Some.ensures.state in
     let fed = state stream start (number - start) first (g.K.Sink.written c.loop-number.sink) going.so_far other here going.stands in
     let setting = next_setting v c.args.epoch.partial stream c.args.epoch.limit start number said c.loop-number.last word frame _ _ first _ going.so_far other taken in
-    let begun = begun-in v c.args.epoch.partial stream c.args.epoch.limit start number said c.loop-number.last _ first _ going.so_far other in
+    let begun = begun-in v (aim_of c.args.epoch.partial) stream c.args.epoch.limit start number said c.loop-number.last _ first _ going.so_far other in
     let kind = subst (λ u. IsReceiverOf c.args.epoch.partial said.0 said.1 u c.next_frame.new.receiver) setting (c.in-Ok-Some.ensures.kept c.args.epoch.partial said.0 said.1 c.loop-number.last.0.now going.kind) in
     let is = is-given v c.args.epoch.partial number start (number - start) said word false taken.mode taken.guard taken.word_is begun here (not-first start number from) in
     let failed = c.in-Err-write_received.ensures.some c.args.epoch.partial said.0 said.1 word.0.now v.cell start (number - start) kind fed in
-    let part = wrote_some _ (given_frame v c.args.epoch.partial number) failed.0 (g.K.Sink.written c.loop-number.sink) (g.K.Sink.written c.write_received.new.sink) is failed.1 failed.2 in
-    write-failed v c.args.epoch.partial stream c.args.epoch.limit number failed.0 said (Some c.loop-number.last) word frame _ _ first (g.K.Sink.written c.loop-number.sink) _ going.so_far.so_far taken part.0 part.1
+    let part = wrote_some _ (given_frame v (aim_of c.args.epoch.partial) number) failed.0 (g.K.Sink.written c.loop-number.sink) (g.K.Sink.written c.write_received.new.sink) is failed.1 failed.2 in
+    write-failed v (aim_of c.args.epoch.partial) stream c.args.epoch.limit number failed.0 said (Some c.loop-number.last) word frame _ _ first (g.K.Sink.written c.loop-number.sink) _ going.so_far.so_far taken part.0 part.1
 
 pub loop-number-preserved : goal.loop-number-preserved
 loop-number-preserved g c = record {
@@ -107,22 +108,22 @@ loop-number-preserved g c = record {
       let from = going.from in
       let other = λ (e : c.loop-number.last.0.countdown ≡ 0). c.if-last-eq0.false (ap (λ (p : TmccFields × Bool). p.0.countdown) c.last.view_is ∙ e) in
       let here : start + (number - start) ≡ number = omega (arith, from) in
-      let P : Option (TmccFields × Bool) → Type 0 = λ o. TakeAnswer v c.args.epoch.partial stream c.args.epoch.limit number said (Some c.loop-number.last) frame first (g.K.Sink.written c.loop-number.sink) (g.H.Shelf.left c.next_frame.new.shelf seats.In) (Ok o) in
+      let P : Option (TmccFields × Bool) → Type 0 = λ o. TakeAnswer v (aim_of c.args.epoch.partial) stream c.args.epoch.limit number said (Some c.loop-number.last) frame first (g.K.Sink.written c.loop-number.sink) (g.H.Shelf.left c.next_frame.new.shelf seats.In) (Ok o) in
       let taken : P (Some word) = subst P c.in-Ok-Some.field-0-is (c.in-Ok-Some.ensures.answer stream start first (g.K.Sink.written c.loop-number.sink) going.so_far other) in
-      let Q : Option (TmccFields × Bool) → Type 0 = λ o. IfSome o (λ word. (stream : List ℕ) (start h : ℕ) (first now : Option (List ℕ)) → InEpoch (view_of c.args.epoch.form stream) c.args.epoch.partial stream c.args.epoch.limit start number said c.loop-number.last (g.H.Shelf.left c.loop-number.shelf seats.In) first now
+      let Q : Option (TmccFields × Bool) → Type 0 = λ o. IfSome o (λ word. (stream : List ℕ) (start h : ℕ) (first now : Option (List ℕ)) → InEpoch (view_of c.args.epoch.form stream) (aim_of c.args.epoch.partial) stream c.args.epoch.limit start number said c.loop-number.last (g.H.Shelf.left c.loop-number.shelf seats.In) first now
       → (c.loop-number.last.0.countdown ≡ 0 → ⊥) → start + h ≡ number → StandsFor c.loop-number.receiver (view_of c.args.epoch.form stream).cell start h → StandsFor c.next_frame.new.receiver (view_of c.args.epoch.form stream).cell start h) in
       let state : Q (Some word) = subst Q c.in-Ok-Some.field-0-is c.in-Ok-Some.ensures.state in
       let fed = state stream start (number - start) first (g.K.Sink.written c.loop-number.sink) going.so_far other here going.stands in
       let setting = next_setting v c.args.epoch.partial stream c.args.epoch.limit start number said c.loop-number.last word frame _ _ first _ going.so_far other taken in
-      let begun = begun-in v c.args.epoch.partial stream c.args.epoch.limit start number said c.loop-number.last _ first _ going.so_far other in
+      let begun = begun-in v (aim_of c.args.epoch.partial) stream c.args.epoch.limit start number said c.loop-number.last _ first _ going.so_far other in
       let kind = subst (λ u. IsReceiverOf c.args.epoch.partial said.0 said.1 u c.next_frame.new.receiver) setting (c.in-Ok-Some.ensures.kept c.args.epoch.partial said.0 said.1 c.loop-number.last.0.now going.kind) in
       let is = is-given v c.args.epoch.partial number start (number - start) said word false taken.mode taken.guard taken.word_is begun here (not-first start number from) in
-      let wrote = wrote_all _ (given_frame v c.args.epoch.partial number) (g.K.Sink.written c.loop-number.sink) (g.K.Sink.written c.write_received.new.sink) is (c.in-Ok.ensures.ok c.args.epoch.partial said.0 said.1 word.0.now v.cell start (number - start) kind fed) in
+      let wrote = wrote_all _ (given_frame v (aim_of c.args.epoch.partial) number) (g.K.Sink.written c.loop-number.sink) (g.K.Sink.written c.write_received.new.sink) is (c.in-Ok.ensures.ok c.args.epoch.partial said.0 said.1 word.0.now v.cell start (number - start) kind fed) in
       record {
         kind = c.write_received.ensures.kept c.args.epoch.partial said.0 said.1 word.0.now kind;
         stands = subst (StandsFor c.write_received.new.receiver v.cell start) (let e : number - start + 1 ≡ number + 1 - start = omega (arith, from) in e) (c.write_received.ensures.state v.cell start (number - start) fed);
         from = omega (arith, from);
-        so_far = next_in v c.args.epoch.partial stream c.args.epoch.limit start number said c.loop-number.last word frame _ _ first (g.K.Sink.written c.loop-number.sink) _ going.so_far other taken wrote;
+        so_far = next_in v (aim_of c.args.epoch.partial) stream c.args.epoch.limit start number said c.loop-number.last word frame _ _ first (g.K.Sink.written c.loop-number.sink) _ going.so_far other taken wrote;
       });
 }
 

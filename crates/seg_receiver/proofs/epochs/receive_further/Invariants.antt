@@ -2,6 +2,7 @@ use Rattle.std.proofs.Common.{◌≡◌, ◌+◌, ◌<◌, ℕ, List, true}
 use Rattle.std.specs.declared.option.Option.{Option}
 use Rattle.edge_io.specs.declared.shelf.Seat.TheVariants as seats
 use Rattle.seg_receiver.specs.Buffers.{HasRoom}
+use Rattle.seg_receiver.specs.Aims.{aim_of}
 use Rattle.seg_receiver.specs.CellStream.{view_of}
 use Rattle.isdbt_base.specs.Parameters.{Parameters}
 use Rattle.seg_receiver.specs.EpochReceiver.{symbols_of, IsReceiverOf, StandsFor}
@@ -20,6 +21,6 @@ invariant-loop-number g l = record {
   sink_kept : g.K.Sink.faults l.sink ≡ g.K.Sink.faults l.initial.sink;
   sink_room : g.K.Sink.room l.sink ≡ g.K.Sink.room l.initial.sink;
   told : (stream : List ℕ) (start h : ℕ) (first : Option (List ℕ)) → start + h ≡ l.next → 0 < h → StandsFor l.initial.receiver (view_of l.epoch.form stream).cell start h
-      → InEpoch (view_of l.epoch.form stream) l.epoch.partial stream l.epoch.limit start l.next (l.epoch.mode, l.epoch.guard) l.word (g.H.Shelf.left l.initial.shelf seats.In) first (g.K.Sink.written l.initial.sink)
+      → InEpoch (view_of l.epoch.form stream) (aim_of l.epoch.partial) stream l.epoch.limit start l.next (l.epoch.mode, l.epoch.guard) l.word (g.H.Shelf.left l.initial.shelf seats.In) first (g.K.Sink.written l.initial.sink)
       → Going l.receiver (view_of l.epoch.form stream) l.epoch.partial stream l.epoch.limit start l.number (l.epoch.mode, l.epoch.guard) l.last (g.H.Shelf.left l.shelf seats.In) first (g.K.Sink.written l.sink);
 }

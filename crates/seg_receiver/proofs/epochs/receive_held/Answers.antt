@@ -3,6 +3,7 @@ use Rattle.std.proofs.lemmas.Bool.{eq-eqb}
 use Rattle.isdbt_base.specs.declared.kinds.Mode.{Mode}
 use Rattle.isdbt_base.specs.declared.kinds.Guard.{Guard}
 use Rattle.tmcc_word.specs.Fields.{TmccFields}
+use Rattle.seg_receiver.specs.Aims.{aim_of}
 use Rattle.seg_receiver.specs.CellStream.{view_of}
 use Rattle.seg_receiver.specs.EpochReceiver.{IsReceiverOf}
 use Rattle.seg_receiver.specs.ReceiveAnswers.{given_frame}
@@ -31,8 +32,8 @@ returns-in-Err-clause-answer g c = λ stream last known first at taken.
     let kind = c.feed_held.ensures.kept c.args.epoch.partial said.0 said.1 word.0.now opened in
     let is = is-given v c.args.epoch.partial number number 0 said word true taken.mode taken.guard taken.word_is (at.begun c.requires.below) here (eq-eqb number number refl) in
     let failed = c.in-Err.ensures.some c.args.epoch.partial said.0 said.1 word.0.now cell number 0 kind fed in
-    let part = wrote_some _ (given_frame v c.args.epoch.partial number) failed.0 (g.K.Sink.written c.args.sink.now) (g.K.Sink.written c.write_received.new.sink) is failed.1 failed.2 in
-    write-failed v c.args.epoch.partial stream c.args.epoch.limit number failed.0 said last word frame known _ first (g.K.Sink.written c.args.sink.now) _ at.so_far taken part.0 part.1
+    let part = wrote_some _ (given_frame v (aim_of c.args.epoch.partial) number) failed.0 (g.K.Sink.written c.args.sink.now) (g.K.Sink.written c.write_received.new.sink) is failed.1 failed.2 in
+    write-failed v (aim_of c.args.epoch.partial) stream c.args.epoch.limit number failed.0 said last word frame known _ first (g.K.Sink.written c.args.sink.now) _ at.so_far taken part.0 part.1
 
 pub returns-clause-answer : goal.returns-clause-answer
 returns-clause-answer g c = λ stream last known first at taken.
@@ -49,8 +50,8 @@ returns-clause-answer g c = λ stream last known first at taken.
     let opened = subst (λ u. IsReceiverOf c.args.epoch.partial said.0 said.1 u c.in-Ok.receiver) (ap (λ (i : TmccFields). i.now) c.info.view_is) c.in-Ok.ensures.receiver in
     let kind = c.feed_held.ensures.kept c.args.epoch.partial said.0 said.1 word.0.now opened in
     let is = is-given v c.args.epoch.partial number number 0 said word true taken.mode taken.guard taken.word_is (at.begun c.requires.below) here (eq-eqb number number refl) in
-    let wrote = wrote_all _ (given_frame v c.args.epoch.partial number) (g.K.Sink.written c.args.sink.now) (g.K.Sink.written c.write_received.new.sink) is (c.in-Ok-write_received.ensures.ok c.args.epoch.partial said.0 said.1 word.0.now cell number 0 kind fed) in
-    let so_far = first_in v c.args.epoch.partial stream c.args.epoch.limit number said last word frame known _ first (g.K.Sink.written c.args.sink.now) (g.K.Sink.written c.write_received.new.sink) c.requires.below at taken wrote in
+    let wrote = wrote_all _ (given_frame v (aim_of c.args.epoch.partial) number) (g.K.Sink.written c.args.sink.now) (g.K.Sink.written c.write_received.new.sink) is (c.in-Ok-write_received.ensures.ok c.args.epoch.partial said.0 said.1 word.0.now cell number 0 kind fed) in
+    let so_far = first_in v (aim_of c.args.epoch.partial) stream c.args.epoch.limit number said last word frame known _ first (g.K.Sink.written c.args.sink.now) (g.K.Sink.written c.write_received.new.sink) c.requires.below at taken wrote in
     let stands = c.write_received.ensures.state cell number 0 fed in
     c.receive_further.ensures.answer stream number 1 first refl (omega arith) stands so_far
 

@@ -1,12 +1,11 @@
-use Rattle.std.proofs.Common.{◌≡◌, Bool, true, false, refl, ap, ◌∙◌, subst, arith, Ok, drop}
+use Rattle.std.proofs.Common.{◌≡◌, refl, ap, ◌∙◌, subst, arith, Ok}
 use Rattle.edge_io.specs.declared.shelf.Seat.TheVariants as seats
-use Rattle.edge_io.specs.Reading.{EndsAnswer}
 use Rattle.seg_receiver.specs.declared.epochs.EpochEnd.{EpochEnd}
 use Rattle.seg_receiver.specs.declared.epochs.EpochEnd.TheVariants.{Next}
+use Rattle.seg_receiver.specs.Aims.{aim_of}
 use Rattle.seg_receiver.specs.CellStream.{view_of}
 use Rattle.seg_receiver.specs.EpochAnswers.{EpochAnswer, EndsPast}
 use Rattle.seg_receiver.proofs.EpochProgress.{at_first, progress-at_limit}
-use Rattle.seg_receiver.proofs.ReceiveProgress.{ended_at_limit, too_long, stopped_at_limit}
 use Rattle.seg_receiver.proofs.ViewLaws.{laid}
 use Rattle.seg_receiver.proofs.receiving.receive_epochs.Goals as goal
 
@@ -19,12 +18,12 @@ loop-start-init g c = record {
   shelf_kept = refl;
   sink_kept = refl;
   sink_room = refl;
-  told = λ stream told. at_first (view_of c.args.reception.form stream) stream c.args.reception.partial c.args.reception.limit _ _ (laid c.args.reception.form stream) told;
+  told = λ stream told. at_first (view_of c.args.reception.form stream) stream (aim_of c.args.reception.partial) c.args.reception.limit _ _ (laid c.args.reception.form stream) told;
 }
 
 pub returns-in-Ok-Input-clause-answer : goal.returns-in-Ok-Input-clause-answer
 returns-in-Ok-Input-clause-answer g c = λ stream told.
-    let P : EpochEnd → Type 0 = λ e. EpochAnswer (view_of c.args.reception.form stream) c.args.reception.partial stream c.args.reception.limit (g.K.Sink.written c.args.sink.now) (g.K.Sink.written c.receive_epoch-end.new.sink) (g.H.Shelf.left c.receive_epoch-end.new.shelf seats.In) (Ok e) in
+    let P : EpochEnd → Type 0 = λ e. EpochAnswer (view_of c.args.reception.form stream) (aim_of c.args.reception.partial) stream c.args.reception.limit (g.K.Sink.written c.args.sink.now) (g.K.Sink.written c.receive_epoch-end.new.sink) (g.H.Shelf.left c.receive_epoch-end.new.shelf seats.In) (Ok e) in
     subst P c.in-Ok-Input.field-0-is (c.in-Ok-Input.ensures.answer stream (g.K.Sink.written c.args.sink.now) (c.loop-start.invariant.told stream told))
 
 pub loop-start-preserved : goal.loop-start-preserved
@@ -40,7 +39,7 @@ loop-start-preserved g c =
       sink_kept = c.in-Ok-Next.ensures.cause.1 ∙ c.loop-start.invariant.sink_kept;
       sink_room = c.in-Ok-Next.ensures.sink_room ∙ c.loop-start.invariant.sink_room;
       told = λ stream told. (
-          let P : EpochEnd → Type 0 = λ e. EpochAnswer (view_of c.args.reception.form stream) c.args.reception.partial stream c.args.reception.limit (g.K.Sink.written c.args.sink.now) (g.K.Sink.written c.receive_epoch-end.new.sink) (g.H.Shelf.left c.receive_epoch-end.new.shelf seats.In) (Ok e) in
+          let P : EpochEnd → Type 0 = λ e. EpochAnswer (view_of c.args.reception.form stream) (aim_of c.args.reception.partial) stream c.args.reception.limit (g.K.Sink.written c.args.sink.now) (g.K.Sink.written c.receive_epoch-end.new.sink) (g.H.Shelf.left c.receive_epoch-end.new.shelf seats.In) (Ok e) in
           subst P c.in-Ok-Next.field-0-is (c.in-Ok-Next.ensures.answer stream (g.K.Sink.written c.args.sink.now) (c.loop-start.invariant.told stream told)));
     }
 
@@ -52,24 +51,9 @@ loop-start-smaller g c =
     let most = past.1 in
     omega (arith, less, most)
 
-pub returns-in-Ok-true-clause-answer : goal.returns-in-Ok-true-clause-answer
-returns-in-Ok-true-clause-answer g c = λ stream told.
+pub returns-clause-answer : goal.returns-clause-answer
+returns-clause-answer g c = λ stream told.
+    let form = c.args.reception.form in
+    let aim = aim_of c.args.reception.partial in
     let end : c.loop-start.start.frame ≡ c.args.reception.limit = (let most = c.loop-start.invariant.most in omega (arith, most)) in
-    let so_far = progress-at_limit (view_of c.args.reception.form stream) c.args.reception.partial stream c.args.reception.limit c.loop-start.start.frame c.loop-start.start.before _ _ _ end (c.loop-start.invariant.told stream told) in
-    let P : Bool → Type 0 = λ b. EndsAnswer (drop ((view_of c.args.reception.form stream).starts c.args.reception.limit) stream) (g.H.Shelf.left c.ends.new.shelf seats.In) (Ok b) in
-    let ends : P true = subst P c.in-Ok-true.field-0-test (c.in-Ok-true.ensures.answer _ so_far.left_is) in
-    ended_at_limit (view_of c.args.reception.form stream) stream (laid c.args.reception.form stream) c.args.reception.partial c.args.reception.limit _ _ _ _ _ so_far ends.0 ends.1
-
-pub returns-in-Ok-false-clause-answer : goal.returns-in-Ok-false-clause-answer
-returns-in-Ok-false-clause-answer g c = λ stream told.
-    let end : c.loop-start.start.frame ≡ c.args.reception.limit = (let most = c.loop-start.invariant.most in omega (arith, most)) in
-    let so_far = progress-at_limit (view_of c.args.reception.form stream) c.args.reception.partial stream c.args.reception.limit c.loop-start.start.frame c.loop-start.start.before _ _ _ end (c.loop-start.invariant.told stream told) in
-    let P : Bool → Type 0 = λ b. EndsAnswer (drop ((view_of c.args.reception.form stream).starts c.args.reception.limit) stream) (g.H.Shelf.left c.ends.new.shelf seats.In) (Ok b) in
-    let ends : P false = subst P c.in-Ok-false.field-0-test (c.in-Ok-false.ensures.answer _ so_far.left_is) in
-    too_long (view_of c.args.reception.form stream) stream (laid c.args.reception.form stream) c.args.reception.partial c.args.reception.limit _ _ _ _ _ so_far ends.0 ends.1
-
-pub returns-in-Err-ends-clause-answer : goal.returns-in-Err-ends-clause-answer
-returns-in-Err-ends-clause-answer g c = λ stream told.
-    let end : c.loop-start.start.frame ≡ c.args.reception.limit = (let most = c.loop-start.invariant.most in omega (arith, most)) in
-    let so_far = progress-at_limit (view_of c.args.reception.form stream) c.args.reception.partial stream c.args.reception.limit c.loop-start.start.frame c.loop-start.start.before _ _ _ end (c.loop-start.invariant.told stream told) in
-    stopped_at_limit (view_of c.args.reception.form stream) stream (laid c.args.reception.form stream) c.args.reception.partial c.args.reception.limit seats.In _ _ _ _ _ so_far (c.in-Err-ends.ensures.answer _ so_far.left_is)
+    c.end_at_limit.ensures.answer form aim stream _ _ _ (progress-at_limit (view_of form stream) aim stream c.args.reception.limit c.loop-start.start.frame c.loop-start.start.before _ _ _ end (c.loop-start.invariant.told stream told))

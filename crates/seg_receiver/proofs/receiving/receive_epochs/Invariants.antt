@@ -1,6 +1,7 @@
 use Rattle.std.proofs.Common.{◌≡◌, ◌-◌, ◌≤◌, ℕ, List, true, Some}
 use Rattle.edge_io.specs.declared.shelf.Seat.TheVariants as seats
 use Rattle.seg_receiver.specs.Buffers.{HasRoom}
+use Rattle.seg_receiver.specs.Aims.{aim_of}
 use Rattle.seg_receiver.specs.CellStream.{view_of}
 use Rattle.seg_receiver.specs.EpochAnswers.{AtEpoch}
 use Rattle.seg_receiver.proofs.receiving.receive_epochs.Given as goal
@@ -15,7 +16,7 @@ invariant-loop-start g l = record {
   sink_kept : g.K.Sink.faults l.sink ≡ g.K.Sink.faults l.initial.sink;
   sink_room : g.K.Sink.room l.sink ≡ g.K.Sink.room l.initial.sink;
   told : (stream : List ℕ) → g.H.Shelf.left l.initial.shelf seats.In ≡ Some stream
-      → AtEpoch (view_of l.reception.form stream) l.reception.partial stream l.reception.limit l.start.frame l.start.before (g.H.Shelf.left l.shelf seats.In) (g.K.Sink.written l.initial.sink) (g.K.Sink.written l.sink);
+      → AtEpoch (view_of l.reception.form stream) (aim_of l.reception.partial) stream l.reception.limit l.start.frame l.start.before (g.H.Shelf.left l.shelf seats.In) (g.K.Sink.written l.initial.sink) (g.K.Sink.written l.sink);
 }
 
 abbrev pub decreases-loop-start : goal.decreases-loop-start

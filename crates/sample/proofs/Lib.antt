@@ -1,0 +1,13 @@
+pub mod Counted
+pub mod FrameCounts
+pub mod Generated
+pub mod InputLaws
+pub mod Multiplexed
+pub mod Negations
+pub mod PlaceLaws
+pub mod PlanFrames
+pub mod ReceivedFrames
+pub mod SentFrames
+pub mod SpoiledSymbols
+pub mod TallyLaws
+pub mod TextLaws

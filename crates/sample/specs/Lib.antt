@@ -1,0 +1,13 @@
+pub mod Answers
+pub mod Chain
+pub mod Counting
+pub mod Counts
+pub mod Generator
+pub mod Inputs
+pub mod LayerCounts
+pub mod Lines
+pub mod Places
+pub mod SampleInputs
+pub mod SamplePlan
+pub mod SpoiledCells
+pub mod Tallies
