@@ -130,7 +130,7 @@ fn check_rows(
     Ok(())
 }
 
-/// Five frames of broadcast packets: all lines; with a write that fails behind 60 bytes; with another guard interval, whose
+/// Five frames of broadcast packets: all lines; with a write that fails behind two lines; with another guard interval, whose
 /// frames have 5120 packets and not 4608, so that a second head stands in the first; and a seat that can't be opened.
 const BTS_ROWS: [ShowRow; 4] = [
     ShowRow {
@@ -151,7 +151,7 @@ const BTS_ROWS: [ShowRow; 4] = [
         end: End {
             status: 12,
             line: "isdbt: 12 write fault\n",
-            written: 60,
+            written: 103,
         },
     },
     ShowRow {
@@ -240,10 +240,7 @@ fn samples(rt: HostRuntime) -> Result<(), Fail> {
 /// A write that fails leaves a front part of the lines.
 #[test]
 fn sample_unwritten(rt: HostRuntime) -> Result<(), Fail> {
-    let outside = Outside {
-        written: 13,
-        ..WELL
-    };
+    let outside = Outside { room: 13, ..WELL };
     let ran = run_over(rt.alloc(), &["sample", "7"], &[], &[], &outside)?;
     assert_eq!(rt; ran.outcome.status(), 12);
     assert!(rt; ran.err.bytes() == "isdbt: 12 write fault\n".as_bytes());
