@@ -17,8 +17,11 @@ pub const LINES: [&str; 7] = [
     "frame 6 even countdown 15 A 64 B 2592 C 0 none 1952\n",
 ];
 
-/// Bytes of three packets without the head flag, which stand before the frames.
-pub const PASSED: usize = 612;
+/// Bytes of three packets without the head flag, which mostly stand before the frames.
+const PASSED: usize = 612;
+
+/// Bytes of 65,536 such packets: in so many the head is looked for.
+const SEARCHED: usize = 13_369_344;
 
 /// Where frame 1 begins, an odd one.
 const FIRST: usize = PASSED + WIDE_FRAME;
@@ -26,11 +29,12 @@ const FIRST: usize = PASSED + WIDE_FRAME;
 /// The bytes of the packets and of seven frames.
 const SEVEN: usize = PASSED + 7 * WIDE_FRAME;
 
-/// How many bytes come of three packets and seven frames, which of them are changed, the most that a read gives, the bytes
-/// from which on a read and a write fail, and the limit on frames; how the listing ends, the lines that are written, and the
-/// bytes that are left.
+/// How many packets without the head flag stand before seven frames, how many bytes come of all these, which of them are
+/// changed, the most that a read gives, the bytes from which on a read and a write fail, and the limit on frames; how the
+/// listing ends, the lines that are written, and the bytes that are left.
 #[derive(Clone, Copy)]
 pub struct ShowRow {
+    pub passed: usize,
     pub bytes: usize,
     pub changes: &'static [ChangedByte],
     pub pieces: usize,
@@ -44,6 +48,7 @@ pub struct ShowRow {
 
 /// All is listed.
 const ALL: ShowRow = ShowRow {
+    passed: 3,
     bytes: SEVEN,
     changes: &[],
     pieces: usize::MAX,
@@ -57,11 +62,18 @@ const ALL: ShowRow = ShowRow {
 
 /// The whole stream, also in pieces; streams that end in the search or in a frame; packets without sync byte and head flags that
 /// are misplaced, in the search, in frame 0 and in frame 1; limits; reads and writes that fail. A frame is taken whole before
-/// it is checked, and nothing behind it, but a byte behind the limit.
-pub const SHOWN: [ShowRow; 24] = [
+/// it is checked, and nothing behind it, but a byte behind the limit, or behind the last packet of the search.
+pub const SHOWN: [ShowRow; 30] = [
     ALL,
     ShowRow {
         pieces: 1000,
+        ..ALL
+    },
+    ShowRow {
+        bytes: FIRST,
+        pieces: 1,
+        answer: Ok(1),
+        lines: 1,
         ..ALL
     },
     ShowRow { limit: 7, ..ALL },
@@ -74,6 +86,43 @@ pub const SHOWN: [ShowRow; 24] = [
     ShowRow {
         bytes: PASSED,
         answer: Err(CodeFault::NoHead),
+        lines: 0,
+        ..ALL
+    },
+    ShowRow {
+        passed: 65_535,
+        bytes: SEARCHED - 204 + WIDE_FRAME,
+        answer: Ok(1),
+        lines: 1,
+        ..ALL
+    },
+    ShowRow {
+        passed: 65_536,
+        bytes: SEARCHED,
+        answer: Err(CodeFault::NoHead),
+        lines: 0,
+        ..ALL
+    },
+    ShowRow {
+        passed: 65_536,
+        bytes: SEARCHED + 1,
+        answer: Err(CodeFault::TooLong),
+        lines: 0,
+        ..ALL
+    },
+    ShowRow {
+        passed: 65_536,
+        bytes: SEARCHED + WIDE_FRAME,
+        answer: Err(CodeFault::TooLong),
+        lines: 0,
+        left: WIDE_FRAME - 1,
+        ..ALL
+    },
+    ShowRow {
+        passed: 65_536,
+        bytes: SEARCHED,
+        read_fails_from: SEARCHED as u64,
+        answer: Err(CodeFault::ReadFault(Seat::In)),
         lines: 0,
         ..ALL
     },

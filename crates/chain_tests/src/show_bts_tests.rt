@@ -5,7 +5,7 @@ use crate::commands::{
 };
 use crate::head_tests::changed_stream;
 use crate::plans::{PARTIAL_AND_WIDE, SINGLE, SwitchRow, THREE_QUARTERS, plan_with};
-use crate::show_bts_rows::{LINES, PASSED, SHOWN, ShowRow};
+use crate::show_bts_rows::{LINES, SHOWN, ShowRow};
 use crate::streams::{FRAME, WIDE_FRAME, check, check_count, marked_packets};
 use coder_core::CodeFault;
 use edge_io::MemorySink;
@@ -22,18 +22,20 @@ fn first_lines(alloc: Global, count: usize) -> Result<Vec<u8>, Fail> {
     Ok(bytes)
 }
 
-/// Seven frames of a partial and a wide layer behind slots 1 to 3 of frame 0.
-fn behind_three(alloc: Global) -> Result<Vec<u8>, Fail> {
-    let (_, frames) = wide_stream(alloc, &PARTIAL_AND_WIDE)?;
+/// Frames of a partial and a wide layer behind the packet in slot 1 of the first, as often as told.
+fn behind(alloc: Global, passed: usize, frames: &[u8]) -> Result<Vec<u8>, Fail> {
     let mut bytes = Vec::new(alloc);
-    bytes.extend_from_slice(frames.bytes().get(204..204 + PASSED).unwrap_or(&[]))?;
-    bytes.extend_from_slice(frames.bytes())?;
+    for _packet in 0..passed {
+        bytes.extend_from_slice(frames.get(204..408).unwrap_or(&[]))?;
+    }
+    bytes.extend_from_slice(frames)?;
     Ok(bytes)
 }
 
-/// Checks how the listing of a stream ends that is changed as a row says.
-fn check_row(rt: &impl Abort, alloc: Global, row: &ShowRow, stream: &[u8]) -> Result<(), Fail> {
-    let changed = changed_stream(alloc, stream, row.bytes, row.changes)?;
+/// Checks how the listing of frames ends, behind packets and changed as a row says.
+fn check_row(rt: &impl Abort, alloc: Global, row: &ShowRow, frames: &[u8]) -> Result<(), Fail> {
+    let stream = behind(alloc, row.passed, frames)?;
+    let changed = changed_stream(alloc, &stream, row.bytes, row.changes)?;
     let input = LoneInput {
         stream: &changed,
         pieces: row.pieces,
@@ -55,10 +57,10 @@ fn check_row(rt: &impl Abort, alloc: Global, row: &ShowRow, stream: &[u8]) -> Re
 #[test]
 fn changed_streams_listed(rt: HostRuntime) -> Result<(), Fail> {
     let alloc = rt.alloc();
-    let stream = behind_three(alloc)?;
-    check_count(&rt, stream.len(), PASSED + 7 * WIDE_FRAME);
+    let (_, frames) = wide_stream(alloc, &PARTIAL_AND_WIDE)?;
+    check_count(&rt, frames.bytes().len(), 7 * WIDE_FRAME);
     for row in &SHOWN {
-        check_row(&rt, alloc, row, &stream)?;
+        check_row(&rt, alloc, row, frames.bytes())?;
     }
     Ok(())
 }
@@ -67,9 +69,9 @@ fn changed_streams_listed(rt: HostRuntime) -> Result<(), Fail> {
 #[test]
 fn line_cut_at_the_room(rt: HostRuntime) -> Result<(), Fail> {
     let alloc = rt.alloc();
-    let stream = behind_three(alloc)?;
+    let (_, frames) = wide_stream(alloc, &PARTIAL_AND_WIDE)?;
     let out = MemorySink::new(alloc, 60)?;
-    let ended = show_packets(alloc, &PARTIAL_AND_WIDE, LIMIT, &whole(&stream), out)?;
+    let ended = show_packets(alloc, &PARTIAL_AND_WIDE, LIMIT, &whole(frames.bytes()), out)?;
     check(&rt, ended.answer == Err(CodeFault::WriteFault));
     let front = "frame 0 even countdown 15 A 64 B 2592 C 0 none 1952\nframe 1 ";
     check(&rt, ended.out.bytes() == front.as_bytes());

@@ -80,8 +80,33 @@ struct OutsideRow {
     left: usize,
 }
 
-/// A read that fails behind the last frame, and one in the fourth; a write that fails behind the first, and in the second; reads of a byte each.
-const OUTSIDE: [OutsideRow; 4] = [
+/// Reads that fail in the search for the head, behind the packet that bears it, in the second frame, behind the third, and behind
+/// the last; a write that fails behind the first frame; reads of a byte each.
+const OUTSIDE: [OutsideRow; 7] = [
+    OutsideRow {
+        pieces: 1,
+        reads_until: 100,
+        writes_until: u64::MAX,
+        answer: Err(CodeFault::ReadFault(Seat::In)),
+        frames: 0,
+        left: 1_305_500,
+    },
+    OutsideRow {
+        pieces: usize::MAX,
+        reads_until: 204,
+        writes_until: u64::MAX,
+        answer: Err(CodeFault::ReadFault(Seat::In)),
+        frames: 0,
+        left: 1_305_396,
+    },
+    OutsideRow {
+        pieces: 1000,
+        reads_until: 261_121,
+        writes_until: u64::MAX,
+        answer: Err(CodeFault::ReadFault(Seat::In)),
+        frames: 1,
+        left: 1_043_480,
+    },
     OutsideRow {
         pieces: usize::MAX,
         reads_until: 1_305_600,
