@@ -4,6 +4,7 @@ use crate::commands::{
     LIMIT, ROOM, receive_into, received, send, show_stream, single_cells, whole,
 };
 use crate::partial_tests::first_form;
+use crate::placed::placed_packets;
 use crate::plans::{PARTIAL_AND_WIDE, SINGLE, plan_of};
 use crate::show_cells_tests::check_lines;
 use crate::streams::{
@@ -228,7 +229,38 @@ fn countdown_that_stays(rt: HostRuntime) -> Result<(), Fail> {
     check_lines(&rt, alloc, first_form(&plan_of(&SINGLE)?), &cells, &LINES)
 }
 
-/// Each cell at the least level of both parts: all frames are received.
+/// The next byte of the dispersal sequence, each bit of which is the sum of those 14 and 15 before. The newest 15 bits stand in
+/// the register, the newest lowest.
+fn sequence_byte(register: &mut u16) -> u8 {
+    let mut byte = 0u8;
+    for _bit in 0..8 {
+        let next = ((*register >> 13) ^ (*register >> 14)) & 1;
+        *register = (*register << 1) | next;
+        byte = (byte << 1) | (next as u8);
+    }
+    byte
+}
+
+/// The packets of a frame of which each bit is decided as 1: behind the sync byte the opposite of the sequence, which lies far
+/// from each codeword, and so with the error mark.
+fn packets_of_ones(alloc: Global) -> Result<Vec<u8>, Fail> {
+    let mut bytes = Vec::new(alloc);
+    let mut register = 0xA9u16;
+    for _packet in 0..156 {
+        bytes.push(0x47)?;
+        bytes.push(!sequence_byte(&mut register) | 0x80)?;
+        for place in 2..205 {
+            let byte = !sequence_byte(&mut register);
+            if place < 188 {
+                bytes.push(byte)?;
+            }
+        }
+    }
+    Ok(bytes)
+}
+
+/// Each cell at the least level of both parts, so that each bit is read as 1: all frames are received, and the third has the
+/// packets of these bits.
 #[test]
 fn cells_of_the_least_byte(rt: HostRuntime) -> Result<(), Fail> {
     let alloc = rt.alloc();
@@ -241,5 +273,10 @@ fn cells_of_the_least_byte(rt: HostRuntime) -> Result<(), Fail> {
     let (frames, out) = received(alloc, &SINGLE, &cells)?;
     check_count(&rt, frames as usize, 3);
     check_count(&rt, out.bytes().len(), 3 * FRAME);
+    let packets = placed_packets(alloc, out.bytes(), 1)?;
+    check(
+        &rt,
+        packets.as_slice() == packets_of_ones(alloc)?.as_slice(),
+    );
     Ok(())
 }
