@@ -23,4 +23,6 @@ pub enum Form {
 pub struct Reading {
     /// The stream's version.
     pub form: Form,
+    /// Each frame's TMCC word is corrected before it is read, where at most eight of its bits B20 to B203 are wrong.
+    pub fix: bool,
 }
