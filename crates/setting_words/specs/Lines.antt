@@ -23,6 +23,11 @@ abbrev pub next_text : Mode → Option Parameters → Word
 next_text mode None = codes "-"
 next_text mode (Some s) = setting_word mode s
 
+-- how many bits of the TMCC word were restored, where words are corrected
+abbrev pub restored_text : Option ℕ → Word
+restored_text None = []
+restored_text (Some n) = codes " restored " ++ decimal n
+
 -- the line of a frame of cells
 abbrev pub cells_line : CellsLine → Word
-cells_line l = frame_text l.frame l.odd l.countdown ++ codes " now " ++ setting_word l.mode l.now ++ codes " next " ++ next_text l.mode l.next ++ 10 ∷ []
+cells_line l = frame_text l.frame l.odd l.countdown ++ codes " now " ++ setting_word l.mode l.now ++ codes " next " ++ next_text l.mode l.next ++ restored_text l.restored ++ 10 ∷ []

@@ -1,7 +1,7 @@
 //! The lines that list the frames of a stream, one for each frame.
 
 ghost use Rattle.std.specs.Prelude.{◌≡◌, ◌≤◌, length};
-ghost use Rattle.setting_words.specs.Lines.{parity_text, frame_text, bts_line, next_text, cells_line};
+ghost use Rattle.setting_words.specs.Lines.{parity_text, frame_text, bts_line, next_text, restored_text, cells_line};
 
 use crate::writing::{SettingWord, setting_word};
 use arrayvec::ArrayString;
@@ -9,7 +9,7 @@ use isdbt_base::{Mode, Setting};
 use itoa::Buffer;
 
 /// A line with its line feed. The longest line that the calls of this crate make fits.
-pub type Line = ArrayString<176>;
+pub type Line = ArrayString<192>;
 
 /// What a frame of broadcast packets shows.
 #[derive(Clone, Copy, Debug)]
@@ -45,6 +45,8 @@ pub struct CellsLine {
     pub now: Setting,
     /// The setting after the next switch, if one is announced.
     pub next: Option<Setting>,
+    /// How many bits of its TMCC word were restored, where words are corrected.
+    pub restored: Option<u32>,
 }
 
 /// The text of a frame's parity.
@@ -101,6 +103,19 @@ fn next_text(mode: Mode, next: &Option<Setting>) -> SettingWord
     }
 }
 
+/// What stands behind the settings where words are corrected: how many bits were restored.
+fn restored_text(restored: Option<u32>) -> ArrayString<20>
+    ensures value { result.bytes ≡ restored_text restored }
+    ensures short { length result.bytes ≤ 20 }
+{
+    let mut text = ArrayString::new();
+    if let Some(count) = restored {
+        text.push_str(" restored ");
+        text.push_str(Buffer::new().format(count));
+    }
+    text
+}
+
 /// The line of a frame of cells.
 pub fn cells_line(shown: &CellsLine) -> Line
     ensures { result.bytes ≡ cells_line shown.entry.now }
@@ -110,6 +125,7 @@ pub fn cells_line(shown: &CellsLine) -> Line
     line.push_str(setting_word(shown.mode, &shown.now).as_str());
     line.push_str(" next ");
     line.push_str(next_text(shown.mode, &shown.next).as_str());
+    line.push_str(restored_text(shown.restored).as_str());
     line.push('\n');
     line
 }

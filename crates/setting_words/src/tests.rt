@@ -197,10 +197,11 @@ struct CellsRow {
     mode: Mode,
     now: &'static str,
     next: Option<&'static str>,
+    restored: Option<u32>,
     line: &'static str,
 }
 
-const CELLS: [CellsRow; 3] = [
+const CELLS: [CellsRow; 4] = [
     CellsRow {
         frame: 0,
         odd: false,
@@ -208,7 +209,18 @@ const CELLS: [CellsRow; 3] = [
         mode: Mode::M3,
         now: "A:1:qpsk:2/3:4:partial,B:12:64qam:3/4:2",
         next: None,
+        restored: None,
         line: "frame 0 even countdown 15 now A:1:qpsk:2/3:4:partial,B:12:64qam:3/4:2 next -\n",
+    },
+    CellsRow {
+        frame: 1,
+        odd: true,
+        countdown: 15,
+        mode: Mode::M1,
+        now: "A:13:qpsk:1/2:0",
+        next: None,
+        restored: Some(0),
+        line: "frame 1 odd countdown 15 now A:13:qpsk:1/2:0 next - restored 0\n",
     },
     CellsRow {
         frame: 7,
@@ -217,7 +229,8 @@ const CELLS: [CellsRow; 3] = [
         mode: Mode::M2,
         now: "A:13:qpsk:1/2:8",
         next: Some("A:13:16qam:1/2:2"),
-        line: "frame 7 odd countdown 0 now A:13:qpsk:1/2:8 next A:13:16qam:1/2:2\n",
+        restored: Some(8),
+        line: "frame 7 odd countdown 0 now A:13:qpsk:1/2:8 next A:13:16qam:1/2:2 restored 8\n",
     },
     CellsRow {
         frame: 4_294_967_295,
@@ -226,7 +239,8 @@ const CELLS: [CellsRow; 3] = [
         mode: Mode::M1,
         now: "A:1:64qam:1/2:16:partial,B:10:64qam:2/3:16,C:2:64qam:3/4:16",
         next: Some("A:1:16qam:5/6:16:partial,B:11:16qam:7/8:16,C:1:16qam:1/2:16"),
-        line: "frame 4294967295 even countdown 255 now A:1:64qam:1/2:16:partial,B:10:64qam:2/3:16,C:2:64qam:3/4:16 next A:1:16qam:5/6:16:partial,B:11:16qam:7/8:16,C:1:16qam:1/2:16\n",
+        restored: Some(4_294_967_295),
+        line: "frame 4294967295 even countdown 255 now A:1:64qam:1/2:16:partial,B:10:64qam:2/3:16,C:2:64qam:3/4:16 next A:1:16qam:5/6:16:partial,B:11:16qam:7/8:16,C:1:16qam:1/2:16 restored 4294967295\n",
     },
 ];
 
@@ -252,6 +266,7 @@ fn lines_of_cells(rt: HostRuntime) -> Result<(), Fail> {
             mode: row.mode,
             now: spelled(row.mode, row.now)?,
             next,
+            restored: row.restored,
         };
         assert!(rt; cells_line(&shown).as_str() == row.line, "{}", row.line);
     }
