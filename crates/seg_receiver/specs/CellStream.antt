@@ -10,9 +10,11 @@ use Rattle.isdbt_base.specs.declared.head.HeadFault.{HeadFault}
 use Rattle.isdbt_base.specs.declared.stream.Writing.{Writing}
 use Rattle.isdbt_base.specs.declared.stream.Form.{Form}
 use Rattle.isdbt_base.specs.declared.stream.Form.TheVariants.{V1, V2}
+use Rattle.isdbt_base.specs.declared.stream.Reading.{Reading}
 use Rattle.isdbt_base.specs.Heads.{head_size, head_read}
 use Rattle.isdbt_base.specs.Numbers.{frame_symbols, carriers}
 use Rattle.cell_map.specs.declared.cell.Cell.{Cell}
+use Rattle.tmcc_fix.specs.Corrected.{corrected}
 use Rattle.coder_core.specs.SentCells.{frame_size}
 use Rattle.seg_receiver.specs.Epochs.{epoch_head}
 use Rattle.seg_receiver.specs.HeadChecks.{bad_byte}
@@ -29,9 +31,14 @@ symbol_start mode f k = f * frame_size mode + k * symbol_size mode
 abbrev pub tmcc_bit : Mode → List ℕ → ℕ → ℕ → Bool
 tmcc_bit mode stream f k = slice_index stream (symbol_start mode f k) % 2 == 1
 
--- the TMCC word of frame f
+-- the TMCC word of frame f, as it comes
 unfoldable pub stream_word : Mode → List ℕ → ℕ → List Bool
 stream_word mode stream f = map (tmcc_bit mode stream f) (range_with_len 0 frame_symbols)
+
+-- a TMCC word as it is read, by whether words are corrected
+abbrev pub word_by : Bool → List Bool → List Bool
+word_by false came = came
+word_by true came = corrected came
 
 -- cells by frame, symbol, segment and carrier
 abbrev pub FrameCells : Type 0
@@ -54,26 +61,30 @@ CellsAgreeUpTo mode f cell other = (g k segment carrier : ℕ) → g ≤ f → k
 
 -- ---- views
 
--- a stream of cells, however its frames are laid: its bytes, the byte at which each frame begins, the bytes of a frame's head, the mode, the guard interval and the TMCC word of each frame, the byte at which its head is refused, and the cells
+-- a stream of cells, however its frames are laid: its bytes, the byte at which each frame begins, the bytes of a frame's head, the mode and the guard interval of each frame, whether words are corrected, the TMCC word of each frame as it came and as it is read, the byte at which its head is refused, and the cells
 pub record View : Type 0 where
   pub size : ℕ
   pub starts : ℕ → ℕ
   pub head : ℕ
   pub mode : ℕ → Mode
   pub guard : ℕ → Guard
+  pub fix : Bool
+  pub came : ℕ → List Bool
   pub word : ℕ → List Bool
   pub bad_head : ℕ → Option ℕ
   pub cell : FrameCells
 
 -- the first version of the stream: frames of one mode and guard interval, one behind the other with no heads
-abbrev pub first_version : Mode → Guard → List ℕ → View
-first_version mode guard stream = record {
+abbrev pub first_version : Bool → Mode → Guard → List ℕ → View
+first_version fix mode guard stream = record {
   size = length stream;
   starts = λ f. f * frame_size mode;
   head = 0;
   mode = λ f. mode;
   guard = λ f. guard;
-  word = stream_word mode stream;
+  fix = fix;
+  came = stream_word mode stream;
+  word = λ f. word_by fix (stream_word mode stream f);
   bad_head = λ f. None;
   cell = stream_cell mode stream;
 }
@@ -111,38 +122,47 @@ guard_said (Err fault) = G4
 abbrev pub symbols_from : List ℕ → ℕ → List ℕ
 symbols_from stream f = drop head_size (bytes_from stream f)
 
--- mode, guard interval and TMCC word of frame f
+-- mode and guard interval of frame f, and its TMCC word as it comes and as it is read
 abbrev pub second_mode : List ℕ → ℕ → Mode
 second_mode stream f = mode_said (head_said (bytes_from stream f))
 
 abbrev pub second_guard : List ℕ → ℕ → Guard
 second_guard stream f = guard_said (head_said (bytes_from stream f))
 
-abbrev pub second_word : List ℕ → ℕ → List Bool
-second_word stream f = stream_word (second_mode stream f) (symbols_from stream f) 0
+abbrev pub second_came : List ℕ → ℕ → List Bool
+second_came stream f = stream_word (second_mode stream f) (symbols_from stream f) 0
+
+abbrev pub second_word : Bool → List ℕ → ℕ → List Bool
+second_word fix stream f = word_by fix (second_came stream f)
 
 -- what the head of frame f must repeat
-abbrev pub second_due : List ℕ → ℕ → Option (Mode × Guard)
-second_due stream = epoch_head (second_word stream) (second_mode stream) (second_guard stream)
+abbrev pub second_due : Bool → List ℕ → ℕ → Option (Mode × Guard)
+second_due fix stream = epoch_head (second_word fix stream) (second_mode stream) (second_guard stream)
 
-abbrev pub second_version : List ℕ → View
-second_version stream = record {
+abbrev pub second_version : Bool → List ℕ → View
+second_version fix stream = record {
   size = length stream;
   starts = second_start stream;
   head = head_size;
   mode = second_mode stream;
   guard = second_guard stream;
-  word = second_word stream;
-  bad_head = λ f. bad_byte (second_due stream f) (take head_size (bytes_from stream f));
+  fix = fix;
+  came = second_came stream;
+  word = second_word fix stream;
+  bad_head = λ f. bad_byte (second_due fix stream f) (take head_size (bytes_from stream f));
   cell = λ f. stream_cell (second_mode stream f) (symbols_from stream f) 0;
 }
 
 -- ---- either version
 
--- the view of a stream in a version
-abbrev pub view_of : Form → List ℕ → View
-view_of (V1 mode guard) stream = first_version mode guard stream
-view_of V2 stream = second_version stream
+-- the view of a stream in a version, by whether words are corrected
+abbrev pub version_of : Bool → Form → List ℕ → View
+version_of fix (V1 mode guard) stream = first_version fix mode guard stream
+version_of fix V2 stream = second_version fix stream
+
+-- the view of a stream that is read so
+abbrev pub view_of : Reading → List ℕ → View
+view_of how stream = version_of how.fix how.form stream
 
 -- how a stream of a version is written
 abbrev pub writing_of : Form → Writing

@@ -1,5 +1,5 @@
 -- What is delivered of the frames of a plan, and which views of cells are near the cells of a plan.
-use Rattle.std.specs.Prelude.{◌≡◌, ℕ, ◌+◌, ◌-◌, ◌*◌, ◌<◌, ◌≤◌, true, if◌then◌else◌, nat_le, Option, Some, None, List, [], flat_map}
+use Rattle.std.specs.Prelude.{◌≡◌, ℕ, ◌+◌, ◌-◌, ◌*◌, ◌<◌, ◌≤◌, true, if◌then◌else◌, nat_le, Option, Some, None, List, Bool, [], flat_map, take, drop}
 use Rattle.std.specs.List.{range_with_len}
 use Rattle.isdbt_base.specs.declared.kinds.Mode.{Mode}
 use Rattle.isdbt_base.specs.declared.kinds.Guard.{Guard}
@@ -15,6 +15,7 @@ use Rattle.isdbt_base.specs.Frames.{FramePackets}
 use Rattle.isdbt_base.specs.Outcome.{product}
 use Rattle.ts_packet.specs.Packets.{null_packet, IsPacket}
 use Rattle.gf_rs.specs.Codewords.{codeword_of, differing, IsBytes}
+use Rattle.tmcc_fix.specs.NearCodewords as words
 use Rattle.layer_chain.specs.OuterWords.{unit_word}
 use Rattle.coder_core.specs.SentCells.{plan_word}
 use Rattle.remux_core.specs.Multiplex.{broadcast}
@@ -91,18 +92,31 @@ AreWordsNear v p frames count x = (f j : ℕ) (l : LayerParameters) → f < coun
     → layer_delay (at_frame p f).mode l ≤ into_epoch p f → j < packets_per_frame (at_frame p f).mode l
     → differing (outer_word_at v p l x f j) (codeword_of 16 (frames (f - layer_delay (at_frame p f).mode l) x j)) ≤ 8
 
+-- the word of each of so many frames of a view is that of the plan
+abbrev pub HaveWords : View → Schedule → ℕ → Type 0
+HaveWords v p count = (f : ℕ) → f < count → v.word f ≡ plan_word p f
+
+-- a word differs from another in at most eight of the bits from B20 on, and in none before
+pub record IsWordNear (came word : List Bool) : Type 0 where
+  pub start : take 20 came ≡ take 20 word
+  pub close : words.differing (drop 20 came) (drop 20 word) ≤ 8
+
+-- the words of so many frames of a view, as they came, differ so from those of the plan
+abbrev pub AreRestorable : View → Schedule → ℕ → Type 0
+AreRestorable v p count = (f : ℕ) → f < count → IsWordNear (v.came f) (plan_word p f)
+
 -- a view has so many frames and no more, each in the plan's mode, with its guard interval and its word, and its outer words are near for each layer
 pub record IsNear (v : View) (p : Schedule) (frames : FramePackets) (count : ℕ) : Type 0 where
   pub whole : v.size ≡ v.starts count
   pub modes : (f : ℕ) → f < count → v.mode f ≡ (at_frame p f).mode
   pub guards : (f : ℕ) → f < count → v.guard f ≡ (at_frame p f).guard
-  pub words : (f : ℕ) → f < count → v.word f ≡ plan_word p f
+  pub words : HaveWords v p count
   pub close : (x : Layer) → AreWordsNear v p frames count x
 
 -- the same for partial reception, which asks it of layer A alone, and that layer A has a segment by itself; the guard interval is nothing to it
 pub record IsNearPartial (v : View) (p : Schedule) (frames : FramePackets) (count : ℕ) : Type 0 where
   pub whole : v.size ≡ v.starts count
   pub modes : (f : ℕ) → f < count → v.mode f ≡ (at_frame p f).mode
-  pub words : (f : ℕ) → f < count → v.word f ≡ plan_word p f
+  pub words : HaveWords v p count
   pub close : AreWordsNear v p frames count A
   pub partial : (f : ℕ) → f < count → (at_frame p f).setting.partial ≡ true

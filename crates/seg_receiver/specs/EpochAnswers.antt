@@ -15,7 +15,7 @@ use Rattle.seg_receiver.specs.declared.fault.ReceiveFault.{ReceiveFault}
 use Rattle.seg_receiver.specs.declared.fault.ReceiveFault.TheVariants.{Truncated}
 use Rattle.seg_receiver.specs.declared.epochs.EpochEnd.{EpochEnd}
 use Rattle.seg_receiver.specs.declared.epochs.EpochEnd.TheVariants.{Input, Next}
-use Rattle.seg_receiver.specs.CellStream.{stream_word, View}
+use Rattle.seg_receiver.specs.CellStream.{stream_word, word_by, View}
 use Rattle.seg_receiver.specs.Epochs.{epoch_start, epoch_head}
 use Rattle.seg_receiver.specs.ReceiveRefusals.{word_refusal, word_before}
 use Rattle.seg_receiver.specs.ReceiveAnswers.{receive_kind, receive_command}
@@ -26,18 +26,18 @@ use Rattle.seg_receiver.specs.ReceiveAnswers.{receive_kind, receive_command}
 abbrev pub tag_of : TmccFields × Bool → Bool → Tag
 tag_of word first = record { odd = word.1; first = first; start_up = word.0.start_up; countdown = word.0.countdown }
 
--- why a frame is refused of which a head of this size came, and so many bytes of its symbols: some and not all, or its word is refused
-abbrev pub FrameRefused : Mode → ℕ → Aim → ℕ → Option (TmccFields × Bool) → List ℕ → ℕ → ReceiveFault → Type 0
-FrameRefused mode head aim f before frame count fault =
+-- why a frame is refused of which a head of this size came, and so many bytes of its symbols: some and not all, or its word is refused, by whether words are corrected
+abbrev pub FrameRefused : Bool → Mode → ℕ → Aim → ℕ → Option (TmccFields × Bool) → List ℕ → ℕ → ReceiveFault → Type 0
+FrameRefused fix mode head aim f before frame count fault =
     ((0 < head + count) × (count < length frame) × (fault ≡ Truncated seats.In (head + count)))
-    ⊎ ((length frame ≤ count) × (word_refusal f aim before (read (stream_word mode frame 0)) ≡ Some fault))
+    ⊎ ((length frame ≤ count) × (word_refusal f aim before (read (word_by fix (stream_word mode frame 0))) ≡ Some fault))
 
 -- what the symbols of a frame say of which so many bytes came, behind a head of this size
-abbrev pub FrameCheck : Mode → ℕ → Aim → ℕ → Option (TmccFields × Bool) → List ℕ → ℕ → Result (Option (TmccFields × Bool)) ReceiveFault → Type 0
-FrameCheck mode head aim f before frame count (Ok None) = head + count ≡ 0
-FrameCheck mode head aim f before frame count (Ok (Some word)) =
-    (length frame ≤ count) × (read (stream_word mode frame 0) ≡ Ok word) × (word_refusal f aim before (read (stream_word mode frame 0)) ≡ None)
-FrameCheck mode head aim f before frame count (Err fault) = FrameRefused mode head aim f before frame count fault
+abbrev pub FrameCheck : Bool → Mode → ℕ → Aim → ℕ → Option (TmccFields × Bool) → List ℕ → ℕ → Result (Option (TmccFields × Bool)) ReceiveFault → Type 0
+FrameCheck fix mode head aim f before frame count (Ok None) = head + count ≡ 0
+FrameCheck fix mode head aim f before frame count (Ok (Some word)) =
+    (length frame ≤ count) × (read (word_by fix (stream_word mode frame 0)) ≡ Ok word) × (word_refusal f aim before (read (word_by fix (stream_word mode frame 0))) ≡ None)
+FrameCheck fix mode head aim f before frame count (Err fault) = FrameRefused fix mode head aim f before frame count fault
 
 -- ---- progress
 

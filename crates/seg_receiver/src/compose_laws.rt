@@ -2,7 +2,7 @@
 
 ghost use Rattle.std.specs.Prelude.{◌≡◌, ℕ, ◌+◌, ◌-◌, ◌<◌, ◌≤◌, Some, None, List, []};
 ghost use Rattle.isdbt_base.specs.declared.stream.Writing.{Writing};
-ghost use Rattle.isdbt_base.specs.declared.stream.Form.{Form};
+ghost use Rattle.isdbt_base.specs.declared.stream.Reading.{Reading};
 ghost use Rattle.isdbt_base.specs.declared.kinds.Layer.{Layer};
 ghost use Rattle.isdbt_base.specs.LayerParameters.{LayerParameters};
 ghost use Rattle.isdbt_base.specs.Parameters.{layer_of};
@@ -41,8 +41,8 @@ pub fn composed_law()
 
 /// And they are received as the multiplexed packets, each put off by its layer's delay.
 pub fn headline_law()
-    ensures { (form : Form) (p : Schedule) (frames : FramePackets) (count : ℕ) → IsPlan p → CanCarry form p count → ArePackets p frames count
-        → received (view_of form (product (coded_frame (writing_of form) p (product (broadcast p frames) count)) count)) count ≡ delivered p frames count }
+    ensures { (how : Reading) (p : Schedule) (frames : FramePackets) (count : ℕ) → IsPlan p → CanCarry how.form p count → ArePackets p frames count
+        → received (view_of how (product (coded_frame (writing_of how.form) p (product (broadcast p frames) count)) count)) count ≡ delivered p frames count }
 {}
 
 /// The packets of the multiplex of inputs of whole packets with their sync bytes are packets of bytes, over switches too.
@@ -54,8 +54,8 @@ pub fn multiplexed_law()
 /// So what `remux` writes of such inputs, coded by `code`, is received as the multiplex of them, each layer's packets put off
 /// by its delay, for any number of frames.
 pub fn chain_law()
-    ensures { (form : Form) (p : Schedule) (input : Layer → List ℕ) (count : ℕ) → IsPlan p → CanCarry form p count → ((x : Layer) → IsGood (input x)) → ((x : Layer) → IsBytes (input x))
-        → received (view_of form (product (coded_frame (writing_of form) p (product (written_frame p input) count)) count)) count ≡ delivered p (multiplexed p input) count }
+    ensures { (how : Reading) (p : Schedule) (input : Layer → List ℕ) (count : ℕ) → IsPlan p → CanCarry how.form p count → ((x : Layer) → IsGood (input x)) → ((x : Layer) → IsBytes (input x))
+        → received (view_of how (product (coded_frame (writing_of how.form) p (product (written_frame p input) count)) count)) count ≡ delivered p (multiplexed p input) count }
 {}
 
 /// And `code` refuses no frame of what `remux` writes: of a plan's frames of packets, as many as its limit allows, it finds all
@@ -77,8 +77,8 @@ pub fn input_law()
 /// And whatever bytes `code` is given: the frames that it passes hold packets of bytes, and the cells that it writes of them are
 /// near these packets, in each version of the stream that can carry the plan. Where no packet bears the head it writes nothing.
 pub fn code_near_law()
-    ensures near { (form : Form) (p : Schedule) (input : List ℕ) (count limit head : ℕ) → IsPlan p → IsBytes input → ArePassed (code_refusal p input limit) (is_there p input) count → CanCarry form p count → first_head input ≡ Some head
-        → ArePackets p (input_frames p input head) count × IsNear (view_of form (product (coded_frame (writing_of form) p input) count)) p (input_frames p input head) count }
+    ensures near { (how : Reading) (p : Schedule) (input : List ℕ) (count limit head : ℕ) → IsPlan p → IsBytes input → ArePassed (code_refusal p input limit) (is_there p input) count → CanCarry how.form p count → first_head input ≡ Some head
+        → ArePackets p (input_frames p input head) count × IsNear (view_of how (product (coded_frame (writing_of how.form) p input) count)) p (input_frames p input head) count }
     ensures none { (how : Writing) (p : Schedule) (input : List ℕ) (count limit : ℕ) → ArePassed (code_refusal p input limit) (is_there p input) count → first_head input ≡ None
         → (count ≡ 0) × (product (coded_frame how p input) count ≡ []) }
 {}

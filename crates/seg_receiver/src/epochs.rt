@@ -23,14 +23,14 @@ use crate::feeding::feed_held;
 use crate::frames::{CellFrame, read_further, read_held, write_received};
 use crate::heads::take_head;
 use edge_io::{Failed, Shelf, Sink};
-use isdbt_base::{Form, Guard, Mode};
+use isdbt_base::{Guard, Mode, Reading};
 use std::alloc::Global;
 use tmcc_word::TmccInfo;
 
-/// What is received: a stream of this version, in full or for partial reception, at most so many frames of it.
+/// What is received: a stream that is read so, in full or for partial reception, at most so many frames of it.
 #[derive(Clone, Copy)]
 pub struct Reception {
-    pub form: Form,
+    pub how: Reading,
     pub partial: bool,
     pub limit: u32,
 }
@@ -38,7 +38,7 @@ pub struct Reception {
 /// What is received in an epoch: frames of this mode and guard interval.
 #[derive(Clone, Copy)]
 pub struct Epoch {
-    pub form: Form,
+    pub how: Reading,
     pub partial: bool,
     pub limit: u32,
     pub mode: Mode,
@@ -75,29 +75,29 @@ fn next_frame<H: Shelf>(
     requires receiver { (s : Parameters) × IsReceiverOf epoch.partial epoch.mode epoch.guard s receiver.old }
     requires fresh { symbols_of receiver.old ≡ 0 }
     requires below { number < epoch.limit }
-    requires can_have { CanHave epoch.form epoch.mode epoch.guard }
-    requires room { HasRoom epoch.form buffers.old }
+    requires can_have { CanHave epoch.how.form epoch.mode epoch.guard }
+    requires room { HasRoom epoch.how.form buffers.old }
     requires is_open { H.is_open shelf.old seats.In ≡ true }
     ensures still_open { H.is_open shelf.new ≡ H.is_open shelf.old }
-    ensures room_kept { HasRoom epoch.form buffers.new }
+    ensures room_kept { HasRoom epoch.how.form buffers.new }
     ensures answer { (stream : List ℕ) (start : ℕ) (first now : Option (List ℕ))
-        → InEpoch (view_of epoch.form stream) (aim_of epoch.partial) stream epoch.limit start number (epoch.mode, epoch.guard) last.now (H.left shelf.old seats.In) first now → (last.now.0.countdown ≡ 0 → ⊥)
-        → TakeAnswer (view_of epoch.form stream) (aim_of epoch.partial) stream epoch.limit number (epoch.mode, epoch.guard) (Option.Some last.now) buffers.new.frame.items first now (H.left shelf.new seats.In) result }
+        → InEpoch (view_of epoch.how stream) (aim_of epoch.partial) stream epoch.limit start number (epoch.mode, epoch.guard) last.now (H.left shelf.old seats.In) first now → (last.now.0.countdown ≡ 0 → ⊥)
+        → TakeAnswer (view_of epoch.how stream) (aim_of epoch.partial) stream epoch.limit number (epoch.mode, epoch.guard) (Option.Some last.now) buffers.new.frame.items first now (H.left shelf.new seats.In) result }
     ensures state { IfOk result (λ o. IfSome o (λ word. (stream : List ℕ) (start h : ℕ) (first now : Option (List ℕ))
-        → InEpoch (view_of epoch.form stream) (aim_of epoch.partial) stream epoch.limit start number (epoch.mode, epoch.guard) last.now (H.left shelf.old seats.In) first now → (last.now.0.countdown ≡ 0 → ⊥)
-        → start + h ≡ number → StandsFor receiver.old (view_of epoch.form stream).cell start h → StandsFor receiver.new (view_of epoch.form stream).cell start h)) }
+        → InEpoch (view_of epoch.how stream) (aim_of epoch.partial) stream epoch.limit start number (epoch.mode, epoch.guard) last.now (H.left shelf.old seats.In) first now → (last.now.0.countdown ≡ 0 → ⊥)
+        → start + h ≡ number → StandsFor receiver.old (view_of epoch.how stream).cell start h → StandsFor receiver.new (view_of epoch.how stream).cell start h)) }
     ensures symbols { IfOk result (λ o. IfSome o (λ word. symbols_of receiver.new ≡ 204)) }
     ensures kept { (partial : Bool) (m : SomeMode) (g : SomeGuard) (s : Parameters) → IsReceiverOf partial m g s receiver.old → IsReceiverOf partial m g s receiver.new }
     ensures cause { ReadingCause receive_kind (H.faults shelf.old) (H.faults shelf.new) result }
 {
     let due = Some((epoch.mode, epoch.guard));
-    match take_head(epoch.form, number, due, shelf) {
+    match take_head(epoch.how, number, due, shelf) {
         Ok(Some(_)) => {}
         Ok(None) => return Ok(None),
         Err(fault) => return Err(fault),
     }
     let frame = CellFrame {
-        form: epoch.form,
+        how: epoch.how,
         aim: aim_of(epoch.partial),
         number,
         mode: epoch.mode,
@@ -127,16 +127,16 @@ fn receive_further<H: Shelf, K: Sink>(
     requires fresh { symbols_of receiver.old ≡ 0 }
     requires some { 0 < next }
     requires most { next ≤ epoch.limit }
-    requires can_have { CanHave epoch.form epoch.mode epoch.guard }
-    requires room { HasRoom epoch.form buffers.old }
+    requires can_have { CanHave epoch.how.form epoch.mode epoch.guard }
+    requires room { HasRoom epoch.how.form buffers.old }
     requires is_open { H.is_open shelf.old seats.In ≡ true }
     ensures still_open { H.is_open shelf.new ≡ H.is_open shelf.old }
-    ensures kept { HasRoom epoch.form buffers.new }
+    ensures kept { HasRoom epoch.how.form buffers.new }
     ensures past { (f : ℕ) → f < next → EndsPast f epoch.limit result }
     ensures answer { (stream : List ℕ) (start h : ℕ) (first : Option (List ℕ)) → start + h ≡ next → 0 < h
-        → StandsFor receiver.old (view_of epoch.form stream).cell start h
-        → InEpoch (view_of epoch.form stream) (aim_of epoch.partial) stream epoch.limit start next (epoch.mode, epoch.guard) word.now (H.left shelf.old seats.In) first (K.written sink.old)
-        → EpochAnswer (view_of epoch.form stream) (aim_of epoch.partial) stream epoch.limit first (K.written sink.new) (H.left shelf.new seats.In) result }
+        → StandsFor receiver.old (view_of epoch.how stream).cell start h
+        → InEpoch (view_of epoch.how stream) (aim_of epoch.partial) stream epoch.limit start next (epoch.mode, epoch.guard) word.now (H.left shelf.old seats.In) first (K.written sink.old)
+        → EpochAnswer (view_of epoch.how stream) (aim_of epoch.partial) stream epoch.limit first (K.written sink.new) (H.left shelf.new seats.In) result }
     ensures cause { LoneCause receive_kind (H.faults shelf.old) (H.faults shelf.new) (K.faults sink.old) (K.faults sink.new) result }
     ensures sink_room { K.room sink.new ≡ K.room sink.old }
     ensures reached { AnswerRoom receive_kind (K.room sink.old) (K.written sink.new) result }
@@ -180,16 +180,16 @@ fn receive_held<H: Shelf, K: Sink>(
     requires flag { epoch.partial ≡ true → word.now.0.now.partial ≡ true }
     requires below { number < epoch.limit }
     requires few { epoch.limit ≤ 16777216 }
-    requires can_have { CanHave epoch.form epoch.mode epoch.guard }
-    requires room { HasRoom epoch.form buffers.old }
+    requires can_have { CanHave epoch.how.form epoch.mode epoch.guard }
+    requires room { HasRoom epoch.how.form buffers.old }
     requires is_open { H.is_open shelf.old seats.In ≡ true }
     ensures still_open { H.is_open shelf.new ≡ H.is_open shelf.old }
-    ensures kept { HasRoom epoch.form buffers.new }
+    ensures kept { HasRoom epoch.how.form buffers.new }
     ensures past { EndsPast number epoch.limit result }
     ensures answer { (stream : List ℕ) (last : Option (TmccFields × Bool)) (known first : Option (List ℕ))
-        → AtEpoch (view_of epoch.form stream) (aim_of epoch.partial) stream epoch.limit number last known first (K.written sink.old)
-        → Taken (view_of epoch.form stream) (aim_of epoch.partial) stream epoch.limit number (epoch.mode, epoch.guard) last word.now buffers.old.frame.items (H.left shelf.old seats.In)
-        → EpochAnswer (view_of epoch.form stream) (aim_of epoch.partial) stream epoch.limit first (K.written sink.new) (H.left shelf.new seats.In) result }
+        → AtEpoch (view_of epoch.how stream) (aim_of epoch.partial) stream epoch.limit number last known first (K.written sink.old)
+        → Taken (view_of epoch.how stream) (aim_of epoch.partial) stream epoch.limit number (epoch.mode, epoch.guard) last word.now buffers.old.frame.items (H.left shelf.old seats.In)
+        → EpochAnswer (view_of epoch.how stream) (aim_of epoch.partial) stream epoch.limit first (K.written sink.new) (H.left shelf.new seats.In) result }
     ensures cause { LoneCause receive_kind (H.faults shelf.old) (H.faults shelf.new) (K.faults sink.old) (K.faults sink.new) result }
     ensures sink_room { K.room sink.new ≡ K.room sink.old }
     ensures reached { AnswerRoom receive_kind (K.room sink.old) (K.written sink.new) result }
@@ -223,29 +223,29 @@ pub fn receive_epoch<H: Shelf, K: Sink>(
 ) -> Result<EpochEnd, ReceiveFault>
     requires below { start.now.frame < reception.limit }
     requires few { reception.limit ≤ 16777216 }
-    requires room { HasRoom reception.form buffers.old }
+    requires room { HasRoom reception.how.form buffers.old }
     requires is_open { H.is_open shelf.old seats.In ≡ true }
     ensures still_open { H.is_open shelf.new ≡ H.is_open shelf.old }
-    ensures kept { HasRoom reception.form buffers.new }
+    ensures kept { HasRoom reception.how.form buffers.new }
     ensures past { EndsPast start.now.frame reception.limit result }
     ensures answer { (stream : List ℕ) (first : Option (List ℕ))
-        → AtEpoch (view_of reception.form stream) (aim_of reception.partial) stream reception.limit start.now.frame start.now.before (H.left shelf.old seats.In) first (K.written sink.old)
-        → EpochAnswer (view_of reception.form stream) (aim_of reception.partial) stream reception.limit first (K.written sink.new) (H.left shelf.new seats.In) result }
+        → AtEpoch (view_of reception.how stream) (aim_of reception.partial) stream reception.limit start.now.frame start.now.before (H.left shelf.old seats.In) first (K.written sink.old)
+        → EpochAnswer (view_of reception.how stream) (aim_of reception.partial) stream reception.limit first (K.written sink.new) (H.left shelf.new seats.In) result }
     ensures cause { LoneCause receive_kind (H.faults shelf.old) (H.faults shelf.new) (K.faults sink.old) (K.faults sink.new) result }
     ensures sink_room { K.room sink.new ≡ K.room sink.old }
     ensures reached { AnswerRoom receive_kind (K.room sink.old) (K.written sink.new) result }
 {
     let number = start.frame;
     let before = start.before;
-    let form = reception.form;
-    let (mode, guard) = match take_head(form, number, None, shelf) {
+    let how = reception.how;
+    let (mode, guard) = match take_head(how, number, None, shelf) {
         Ok(Some(said)) => said,
         Ok(None) => return Ok(EpochEnd::Input(number)),
         Err(fault) => return Err(fault),
     };
     let partial = reception.partial;
     let frame = CellFrame {
-        form,
+        how,
         aim: aim_of(partial),
         number,
         mode,
@@ -257,7 +257,7 @@ pub fn receive_epoch<H: Shelf, K: Sink>(
         Err(fault) => return Err(fault),
     };
     let epoch = Epoch {
-        form,
+        how,
         partial,
         limit: reception.limit,
         mode,

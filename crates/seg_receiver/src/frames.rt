@@ -19,6 +19,7 @@ ghost use Rattle.seg_receiver.specs.EpochAnswers.{tag_of, FrameCheck, Progress, 
 
 use crate::aim::Aim;
 use crate::check_word::check_word;
+use crate::corrections::word_by;
 use crate::epoch_receiver::{EpochReceiver, put_frame, segments};
 use crate::fault::ReceiveFault;
 use crate::feeding::feed_read;
@@ -27,13 +28,13 @@ use crate::symbols::word_in;
 use bts_info::FrameTag;
 use cell_map::Cell;
 use edge_io::{Failed, Seat, Shelf, Sink, fill, write_whole};
-use isdbt_base::{Form, Guard, Mode, SYMBOLS, carriers, symbol_size};
+use isdbt_base::{Guard, Mode, Reading, SYMBOLS, carriers, symbol_size};
 use tmcc_word::TmccInfo;
 
-/// A frame of a stream of this version, of which this is asked, whose head is taken, of this mode and guard interval.
+/// A frame of a stream that is read so, of which this is asked, whose head is taken, of this mode and guard interval.
 #[derive(Clone, Copy)]
 pub struct CellFrame {
-    pub form: Form,
+    pub how: Reading,
     pub aim: Aim,
     pub number: u32,
     pub mode: Mode,
@@ -50,10 +51,10 @@ fn word_read(
 ) -> Result<Option<(TmccInfo, bool)>, ReceiveFault>
     requires size { length symbols.now ≡ frame_size frame.mode }
     requires most { count ≤ length symbols.now }
-    ensures check { (stream : List ℕ) → FrameCheck frame.mode (view_of frame.form stream).head frame.aim frame.number before.now symbols.now count result }
+    ensures check { (stream : List ℕ) → FrameCheck frame.how.fix frame.mode (view_of frame.how stream).head frame.aim frame.number before.now symbols.now count result }
     ensures flag { IfOk result (λ o. IfSome o (λ word. frame.aim ≡ aims.Partial → word.0.now.partial ≡ true)) }
 {
-    let over = head_bytes(frame.form) + count;
+    let over = head_bytes(frame.how.form) + count;
     if over == 0 {
         return Ok(None);
     }
@@ -67,7 +68,7 @@ fn word_read(
         frame.number,
         frame.aim,
         before,
-        &word_in(symbols, frame.mode),
+        &word_by(frame.how.fix, word_in(symbols, frame.mode)),
     )?;
     Ok(Some(word))
 }
@@ -83,9 +84,9 @@ pub fn read_held<H: Shelf>(
     requires is_open { H.is_open shelf.old seats.In ≡ true }
     ensures still_open { H.is_open shelf.new ≡ H.is_open shelf.old }
     ensures answer { (stream : List ℕ) (limit : ℕ) (known first now : Option (List ℕ)) → frame.number < limit
-        → Progress (view_of frame.form stream) frame.aim stream limit frame.number before.now known first now
-        → HeadTaken (view_of frame.form stream) stream frame.number (frame.mode, frame.guard) (H.left shelf.old seats.In)
-        → TakeAnswer (view_of frame.form stream) frame.aim stream limit frame.number (frame.mode, frame.guard) before.now buffer.new first now (H.left shelf.new seats.In) result }
+        → Progress (view_of frame.how stream) frame.aim stream limit frame.number before.now known first now
+        → HeadTaken (view_of frame.how stream) stream frame.number (frame.mode, frame.guard) (H.left shelf.old seats.In)
+        → TakeAnswer (view_of frame.how stream) frame.aim stream limit frame.number (frame.mode, frame.guard) before.now buffer.new first now (H.left shelf.new seats.In) result }
     ensures flag { IfOk result (λ o. IfSome o (λ word. frame.aim ≡ aims.Partial → word.0.now.partial ≡ true)) }
     ensures cause { ReadingCause receive_kind (H.faults shelf.old) (H.faults shelf.new) result }
 {
@@ -113,12 +114,12 @@ pub fn read_further<H: Shelf>(
     requires is_open { H.is_open shelf.old seats.In ≡ true }
     ensures still_open { H.is_open shelf.new ≡ H.is_open shelf.old }
     ensures answer { (stream : List ℕ) (limit : ℕ) (known first now : Option (List ℕ)) → frame.number < limit
-        → Progress (view_of frame.form stream) frame.aim stream limit frame.number before.now known first now
-        → HeadTaken (view_of frame.form stream) stream frame.number (frame.mode, frame.guard) (H.left shelf.old seats.In)
-        → TakeAnswer (view_of frame.form stream) frame.aim stream limit frame.number (frame.mode, frame.guard) before.now buffer.new first now (H.left shelf.new seats.In) result }
+        → Progress (view_of frame.how stream) frame.aim stream limit frame.number before.now known first now
+        → HeadTaken (view_of frame.how stream) stream frame.number (frame.mode, frame.guard) (H.left shelf.old seats.In)
+        → TakeAnswer (view_of frame.how stream) frame.aim stream limit frame.number (frame.mode, frame.guard) before.now buffer.new first now (H.left shelf.new seats.In) result }
     ensures state { IfOk result (λ o. IfSome o (λ word. (stream : List ℕ)
-        → HeadTaken (view_of frame.form stream) stream frame.number (frame.mode, frame.guard) (H.left shelf.old seats.In)
-        → (start h : ℕ) → start + h ≡ frame.number → StandsFor receiver.old (view_of frame.form stream).cell start h → StandsFor receiver.new (view_of frame.form stream).cell start h)) }
+        → HeadTaken (view_of frame.how stream) stream frame.number (frame.mode, frame.guard) (H.left shelf.old seats.In)
+        → (start h : ℕ) → start + h ≡ frame.number → StandsFor receiver.old (view_of frame.how stream).cell start h → StandsFor receiver.new (view_of frame.how stream).cell start h)) }
     ensures symbols { IfOk result (λ o. IfSome o (λ word. symbols_of receiver.new ≡ 204)) }
     ensures kept { (partial : Bool) (m : SomeMode) (g : SomeGuard) (s : Parameters) → IsReceiverOf partial m g s receiver.old → IsReceiverOf partial m g s receiver.new }
     ensures cause { ReadingCause receive_kind (H.faults shelf.old) (H.faults shelf.new) result }

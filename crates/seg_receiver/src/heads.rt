@@ -7,7 +7,7 @@ ghost use Rattle.edge_io.specs.declared.shelf.Seat.TheVariants as seats;
 ghost use Rattle.edge_io.specs.FrameAnswers.{ReadingCause};
 ghost use Rattle.tmcc_word.specs.Fields.{TmccFields};
 ghost use Rattle.seg_receiver.specs.declared.aim.Aim.{Aim};
-ghost use Rattle.seg_receiver.specs.CellStream.{second_version, second_due, view_of};
+ghost use Rattle.seg_receiver.specs.CellStream.{second_version, second_due, version_of, view_of};
 ghost use Rattle.seg_receiver.specs.Buffers.{CanHave};
 ghost use Rattle.seg_receiver.specs.HeadChecks.{other_byte, bad_byte};
 ghost use Rattle.seg_receiver.specs.ReceiveRefusals.{head_refusal};
@@ -16,7 +16,7 @@ ghost use Rattle.seg_receiver.specs.EpochAnswers.{Progress, HeadAnswer, DueIn};
 
 use crate::fault::ReceiveFault;
 use edge_io::{Failed, Seat, Shelf, fill};
-use isdbt_base::{Form, Guard, HEAD_BYTES, Mode, guard_byte, mode_byte, read_head};
+use isdbt_base::{Form, Guard, HEAD_BYTES, Mode, Reading, guard_byte, mode_byte, read_head};
 
 /// The least of bytes 4 and 5 by which a head says another mode or guard interval than it must repeat, if it must repeat any.
 fn other_byte(due: Option<(Mode, Guard)>, head: &[u8; 8]) -> Option<u8>
@@ -67,9 +67,9 @@ fn take_second<H: Shelf>(
 ) -> Result<Option<(Mode, Guard)>, ReceiveFault>
     requires is_open { H.is_open shelf.old seats.In ≡ true }
     ensures still_open { H.is_open shelf.new ≡ H.is_open shelf.old }
-    ensures answer { (aim : Aim) (stream : List ℕ) (limit : ℕ) (last : Option (TmccFields × Bool)) (first now : Option (List ℕ)) → number < limit
-        → Progress (second_version stream) aim stream limit number last (H.left shelf.old seats.In) first now → second_due stream number ≡ due
-        → HeadAnswer (second_version stream) aim stream limit number first now (H.left shelf.new seats.In) result }
+    ensures answer { (fix : Bool) (aim : Aim) (stream : List ℕ) (limit : ℕ) (last : Option (TmccFields × Bool)) (first now : Option (List ℕ)) → number < limit
+        → Progress (second_version fix stream) aim stream limit number last (H.left shelf.old seats.In) first now → second_due fix stream number ≡ due
+        → HeadAnswer (second_version fix stream) aim stream limit number first now (H.left shelf.new seats.In) result }
     ensures cause { ReadingCause receive_kind (H.faults shelf.old) (H.faults shelf.new) result }
 {
     let mut head = [0; HEAD_BYTES];
@@ -95,20 +95,20 @@ fn take_second<H: Shelf>(
 /// Takes the head of the next frame of a stream, where frames have heads, and checks it by what it must repeat: what it says,
 /// or None where the stream ends before it.
 pub fn take_head<H: Shelf>(
-    form: Form,
+    how: Reading,
     number: u32,
     due: Option<(Mode, Guard)>,
     shelf: &mut H,
 ) -> Result<Option<(Mode, Guard)>, ReceiveFault>
     requires is_open { H.is_open shelf.old seats.In ≡ true }
     ensures still_open { H.is_open shelf.new ≡ H.is_open shelf.old }
-    ensures can_have { IfOk result (λ o. IfSome o (λ said. CanHave form said.0 said.1)) }
+    ensures can_have { IfOk result (λ o. IfSome o (λ said. CanHave how.form said.0 said.1)) }
     ensures answer { (aim : Aim) (stream : List ℕ) (limit : ℕ) (last : Option (TmccFields × Bool)) (first now : Option (List ℕ)) → number < limit
-        → Progress (view_of form stream) aim stream limit number last (H.left shelf.old seats.In) first now → DueIn (view_of form stream) number due
-        → HeadAnswer (view_of form stream) aim stream limit number first now (H.left shelf.new seats.In) result }
+        → Progress (view_of how stream) aim stream limit number last (H.left shelf.old seats.In) first now → DueIn (view_of how stream) number due
+        → HeadAnswer (view_of how stream) aim stream limit number first now (H.left shelf.new seats.In) result }
     ensures cause { ReadingCause receive_kind (H.faults shelf.old) (H.faults shelf.new) result }
 {
-    match form {
+    match how.form {
         Form::V1 { mode, guard } => Ok(Some((mode, guard))),
         Form::V2 => take_second(number, due, shelf),
     }
@@ -116,7 +116,7 @@ pub fn take_head<H: Shelf>(
 
 /// Bytes of a frame's head: none in version 1.
 pub fn head_bytes(form: Form) -> usize
-    ensures value { (stream : List ℕ) → (view_of form stream).head ≡ result }
+    ensures value { (fix : Bool) (stream : List ℕ) → (version_of fix form stream).head ≡ result }
     ensures most { result ≤ 8 }
 {
     match form {

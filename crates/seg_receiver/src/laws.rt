@@ -1,7 +1,7 @@
 //! Laws of what is received.
 
 ghost use Rattle.std.specs.Prelude.{◌≡◌, ℕ, ◌<◌, true, List, length};
-ghost use Rattle.isdbt_base.specs.declared.stream.Form.{Form};
+ghost use Rattle.isdbt_base.specs.declared.stream.Reading.{Reading};
 ghost use Rattle.isdbt_base.specs.Plans.{Schedule, IsPlan, at_frame};
 ghost use Rattle.isdbt_base.specs.Frames.{FramePackets};
 ghost use Rattle.isdbt_base.specs.Outcome.{product};
@@ -22,8 +22,8 @@ pub fn received_law()
 
 /// The cells of a plan are near it in each version of the stream that can carry it.
 pub fn near_law()
-    ensures { (form : Form) (p : Schedule) (frames : FramePackets) (count : ℕ) → IsPlan p → CanCarry form p count → ArePackets p frames count
-        → IsNear (view_of form (product (sent_frame (writing_of form) p frames) count)) p frames count }
+    ensures { (how : Reading) (p : Schedule) (frames : FramePackets) (count : ℕ) → IsPlan p → CanCarry how.form p count → ArePackets p frames count
+        → IsNear (view_of how (product (sent_frame (writing_of how.form) p frames) count)) p frames count }
 {}
 
 /// A view that is near the cells of a plan with partial reception gives layer A's packets, from the words and the cells
@@ -33,8 +33,8 @@ pub fn partial_law()
         → received_partial v count ≡ delivered_partial p frames count }
     ensures each { (v : View) (p : Schedule) (frames : FramePackets) (count : ℕ) → IsPlan p → ArePackets p frames count → IsNearPartial v p frames count
         → (f : ℕ) → f < count → partial_frame v f ≡ delivered_partial_frame p frames f }
-    ensures clean { (form : Form) (p : Schedule) (frames : FramePackets) (count : ℕ) → IsPlan p → CanCarryPartial form p count → ArePackets p frames count
-        → ((f : ℕ) → f < count → (at_frame p f).setting.partial ≡ true) → IsNearPartial (view_of form (product (sent_frame (writing_of form) p frames) count)) p frames count }
+    ensures clean { (how : Reading) (p : Schedule) (frames : FramePackets) (count : ℕ) → IsPlan p → CanCarryPartial how.form p count → ArePackets p frames count
+        → ((f : ℕ) → f < count → (at_frame p f).setting.partial ≡ true) → IsNearPartial (view_of how (product (sent_frame (writing_of how.form) p frames) count)) p frames count }
 {}
 
 /// An output frame needs its mode and guard interval, and the words and the cells of the frames up to it alone, whatever
@@ -45,5 +45,5 @@ pub fn prefix_law()
 
 /// Where a stream ends with a frame, each frame up to it ends where the next begins.
 pub fn row_law()
-    ensures { (form : Form) (stream : List ℕ) (count : ℕ) → length stream ≡ (view_of form stream).starts count → AreInRow (view_of form stream) count }
+    ensures { (how : Reading) (stream : List ℕ) (count : ℕ) → length stream ≡ (view_of how stream).starts count → AreInRow (view_of how stream) count }
 {}

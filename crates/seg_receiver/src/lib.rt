@@ -22,6 +22,7 @@ mod aim;
 mod buffers;
 mod check_word;
 mod compose_laws;
+mod corrections;
 mod decoder_part;
 mod epoch_receiver;
 mod epochs;
@@ -48,7 +49,7 @@ pub use compose_laws::{
 };
 pub use fault::ReceiveFault;
 pub use laws::{near_law, partial_law, prefix_law, received_law, row_law};
-pub use outcome_laws::{head_law, near_outcome_law, same_setting_law};
+pub use outcome_laws::{head_law, near_outcome_law, restored_law, same_setting_law};
 pub use partial_receiver::PartialReceiver;
 pub use receiver::Receiver;
 pub use receiving::{receive, receive_partial};

@@ -26,10 +26,10 @@ fn receive_epochs<H: Shelf, K: Sink>(
     sink: &mut K,
 ) -> Result<u32, ReceiveFault>
     requires few { reception.limit ≤ 16777216 }
-    requires room_for { HasRoom reception.form buffers.old }
+    requires room_for { HasRoom reception.how.form buffers.old }
     requires is_open { H.is_open shelf.old seats.In ≡ true }
     ensures answer { (stream : List ℕ) → H.left shelf.old seats.In ≡ Some stream
-        → LoneAnswer receive_kind (receive_command (view_of reception.form stream) (aim_of reception.partial) stream reception.limit) (K.written sink.old) (K.written sink.new) (H.left shelf.new seats.In) result }
+        → LoneAnswer receive_kind (receive_command (view_of reception.how stream) (aim_of reception.partial) stream reception.limit) (K.written sink.old) (K.written sink.new) (H.left shelf.new seats.In) result }
     ensures still_open { H.is_open shelf.new ≡ H.is_open shelf.old }
     ensures cause { LoneCause receive_kind (H.faults shelf.old) (H.faults shelf.new) (K.faults sink.old) (K.faults sink.new) result }
     ensures room { K.room sink.new ≡ K.room sink.old }
@@ -60,13 +60,13 @@ fn receive_stream<H: Shelf, K: Sink>(
     requires few { reception.limit ≤ 16777216 }
     requires is_open { H.is_open shelf.old seats.In ≡ true }
     ensures answer { (stream : List ℕ) → H.left shelf.old seats.In ≡ Some stream
-        → LoneAnswer receive_kind (receive_command (view_of reception.form stream) (aim_of reception.partial) stream reception.limit) (K.written sink.old) (K.written sink.new) (H.left shelf.new seats.In) result }
+        → LoneAnswer receive_kind (receive_command (view_of reception.how stream) (aim_of reception.partial) stream reception.limit) (K.written sink.old) (K.written sink.new) (H.left shelf.new seats.In) result }
     ensures still_open { H.is_open shelf.new ≡ H.is_open shelf.old }
     ensures cause { LoneCause receive_kind (H.faults shelf.old) (H.faults shelf.new) (K.faults sink.old) (K.faults sink.new) result }
     ensures room { K.room sink.new ≡ K.room sink.old }
     ensures reached { AnswerRoom receive_kind (K.room sink.old) (K.written sink.new) result }
 {
-    let Ok(mut buffers) = ReceiveBuffers::open(alloc, reception.form) else {
+    let Ok(mut buffers) = ReceiveBuffers::open(alloc, reception.how.form) else {
         return Err(ReceiveFault::NoMemory);
     };
     receive_epochs(alloc, reception, &mut buffers, shelf, sink)
@@ -96,7 +96,7 @@ pub fn receive<H: Shelf, K: Sink>(
     requires few { limit ≤ 16777216 }
     requires is_open { H.is_open shelf.old seats.In ≡ true }
     ensures answer { (stream : List ℕ) → H.left shelf.old seats.In ≡ Some stream
-        → LoneAnswer receive_kind (receive_command (view_of how.form stream) aims.Full stream limit) (K.written sink.old) (K.written sink.new) (H.left shelf.new seats.In) result }
+        → LoneAnswer receive_kind (receive_command (view_of how stream) aims.Full stream limit) (K.written sink.old) (K.written sink.new) (H.left shelf.new seats.In) result }
     ensures still_open { H.is_open shelf.new ≡ H.is_open shelf.old }
     ensures cause { LoneCause receive_kind (H.faults shelf.old) (H.faults shelf.new) (K.faults sink.old) (K.faults sink.new) result }
 
@@ -105,7 +105,7 @@ pub fn receive<H: Shelf, K: Sink>(
     ensures reached { AnswerRoom receive_kind (K.room sink.old) (K.written sink.new) result }
 {
     let reception = Reception {
-        form: how.form,
+        how,
         partial: false,
         limit,
     };
@@ -127,7 +127,7 @@ pub fn receive_partial<H: Shelf, K: Sink>(
     requires few { limit ≤ 16777216 }
     requires is_open { H.is_open shelf.old seats.In ≡ true }
     ensures answer { (stream : List ℕ) → H.left shelf.old seats.In ≡ Some stream
-        → LoneAnswer receive_kind (receive_command (view_of how.form stream) aims.Partial stream limit) (K.written sink.old) (K.written sink.new) (H.left shelf.new seats.In) result }
+        → LoneAnswer receive_kind (receive_command (view_of how stream) aims.Partial stream limit) (K.written sink.old) (K.written sink.new) (H.left shelf.new seats.In) result }
     ensures still_open { H.is_open shelf.new ≡ H.is_open shelf.old }
     ensures cause { LoneCause receive_kind (H.faults shelf.old) (H.faults shelf.new) (K.faults sink.old) (K.faults sink.new) result }
 
@@ -136,7 +136,7 @@ pub fn receive_partial<H: Shelf, K: Sink>(
     ensures reached { AnswerRoom receive_kind (K.room sink.old) (K.written sink.new) result }
 {
     let reception = Reception {
-        form: how.form,
+        how,
         partial: true,
         limit,
     };

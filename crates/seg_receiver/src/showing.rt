@@ -1,31 +1,33 @@
 //! Cells into lines that list their frames.
 
-ghost use Rattle.std.specs.Prelude.{◌≡◌, ℕ, List, ◌≤◌, ◌<◌, Some, Ok, None, true, length};
+ghost use Rattle.std.specs.Prelude.{◌≡◌, ℕ, List, ◌≤◌, ◌<◌, Some, Ok, None, true, length, take};
 ghost use Rattle.edge_io.specs.declared.shelf.Seat.TheVariants as seats;
 ghost use Rattle.edge_io.specs.FrameAnswers.{LoneAnswer, LoneCause, AnswerRoom};
 ghost use Rattle.coder_core.specs.SentCells.{frame_size};
 ghost use Rattle.seg_receiver.specs.declared.aim.Aim.TheVariants as aims;
 ghost use Rattle.seg_receiver.specs.Buffers.{largest_mode};
-ghost use Rattle.seg_receiver.specs.CellStream.{view_of};
+ghost use Rattle.seg_receiver.specs.CellStream.{stream_word, view_of};
 ghost use Rattle.seg_receiver.specs.Epochs.{due_behind};
-ghost use Rattle.seg_receiver.specs.FrameLines.{word_line};
+ghost use Rattle.seg_receiver.specs.FrameLines.{restored, word_line};
 ghost use Rattle.seg_receiver.specs.ReceiveAnswers.{receive_kind, receive_command};
 
 use crate::aim::Aim;
 use crate::buffers::frame_buffer;
+use crate::corrections::restored;
 use crate::fault::ReceiveFault;
 use crate::frames::{CellFrame, read_held};
 use crate::heads::take_head;
 use crate::limit::end_at_limit;
+use crate::symbols::word_in;
 use edge_io::{Failed, Shelf, Sink, write_whole};
-use isdbt_base::{Form, Guard, Mode, Reading};
+use isdbt_base::{Guard, Mode, Reading, SYMBOLS, symbol_size};
 use setting_words::{CellsLine, Line, cells_line};
 use std::alloc::Global;
 use tmcc_word::TmccInfo;
 
-/// The line of a frame of this mode whose word says this.
-fn line_of(frame: u32, mode: Mode, word: &(TmccInfo, bool)) -> Line
-    ensures { result.bytes ≡ word_line mode frame (Ok word.now) }
+/// The line of a frame of this mode whose word says this, of which so many bits were restored, where words are corrected.
+fn line_of(frame: u32, mode: Mode, restored: Option<u32>, word: &(TmccInfo, bool)) -> Line
+    ensures { result.bytes ≡ word_line mode frame restored (Ok word.now) }
 {
     cells_line(&CellsLine {
         frame,
@@ -34,6 +36,7 @@ fn line_of(frame: u32, mode: Mode, word: &(TmccInfo, bool)) -> Line
         mode,
         now: word.0.now,
         next: word.0.next,
+        restored,
     })
 }
 
@@ -48,19 +51,27 @@ fn due_behind(mode: Mode, guard: Guard, word: &(TmccInfo, bool)) -> Option<(Mode
     }
 }
 
+/// How many bits of the word of a frame are restored whose symbols stand at the front of a buffer, where words are corrected.
+fn restored_in(fix: bool, mode: Mode, buffer: &[u8]) -> Option<u32>
+    requires { frame_size mode ≤ length buffer.now }
+    ensures { result ≡ restored fix (stream_word mode (take (frame_size mode) buffer.now) 0) }
+{
+    restored(fix, word_in(&buffer[..SYMBOLS * symbol_size(mode)], mode))
+}
+
 /// The frames of the stream, each read into this buffer and listed.
 fn show_frames<H: Shelf, K: Sink>(
-    form: Form,
+    how: Reading,
     limit: u32,
     buffer: &mut [u8],
     shelf: &mut H,
     sink: &mut K,
 ) -> Result<u32, ReceiveFault>
     requires few { limit ≤ 16777216 }
-    requires room_for { length buffer.old ≡ frame_size (largest_mode form) }
+    requires room_for { length buffer.old ≡ frame_size (largest_mode how.form) }
     requires is_open { H.is_open shelf.old seats.In ≡ true }
     ensures answer { (stream : List ℕ) → H.left shelf.old seats.In ≡ Some stream
-        → LoneAnswer receive_kind (receive_command (view_of form stream) aims.Lines stream limit) (K.written sink.old) (K.written sink.new) (H.left shelf.new seats.In) result }
+        → LoneAnswer receive_kind (receive_command (view_of how stream) aims.Lines stream limit) (K.written sink.old) (K.written sink.new) (H.left shelf.new seats.In) result }
     ensures still_open { H.is_open shelf.new ≡ H.is_open shelf.old }
     ensures cause { LoneCause receive_kind (H.faults shelf.old) (H.faults shelf.new) (K.faults sink.old) (K.faults sink.new) result }
     ensures room { K.room sink.new ≡ K.room sink.old }
@@ -69,13 +80,13 @@ fn show_frames<H: Shelf, K: Sink>(
     let mut due = None;
     let mut last = None;
     for number in 0..limit {
-        let (mode, guard) = match take_head(form, number, due, shelf) {
+        let (mode, guard) = match take_head(how, number, due, shelf) {
             Ok(Some(said)) => said,
             Ok(None) => return Ok(number),
             Err(fault) => return Err(fault),
         };
         let frame = CellFrame {
-            form,
+            how,
             aim: Aim::Lines,
             number,
             mode,
@@ -86,7 +97,8 @@ fn show_frames<H: Shelf, K: Sink>(
             Ok(None) => return Ok(number),
             Err(fault) => return Err(fault),
         };
-        match write_whole(sink, line_of(number, mode, &word).as_bytes()) {
+        let line = line_of(number, mode, restored_in(how.fix, mode, buffer), &word);
+        match write_whole(sink, line.as_bytes()) {
             Ok(()) => {}
             Err(Failed) => return Err(ReceiveFault::WriteFault),
         }
@@ -116,7 +128,7 @@ pub fn show_cells<H: Shelf, K: Sink>(
     requires few { limit ≤ 16777216 }
     requires is_open { H.is_open shelf.old seats.In ≡ true }
     ensures answer { (stream : List ℕ) → H.left shelf.old seats.In ≡ Some stream
-        → LoneAnswer receive_kind (receive_command (view_of how.form stream) aims.Lines stream limit) (K.written sink.old) (K.written sink.new) (H.left shelf.new seats.In) result }
+        → LoneAnswer receive_kind (receive_command (view_of how stream) aims.Lines stream limit) (K.written sink.old) (K.written sink.new) (H.left shelf.new seats.In) result }
     ensures still_open { H.is_open shelf.new ≡ H.is_open shelf.old }
     ensures cause { LoneCause receive_kind (H.faults shelf.old) (H.faults shelf.new) (K.faults sink.old) (K.faults sink.new) result }
 
@@ -127,5 +139,5 @@ pub fn show_cells<H: Shelf, K: Sink>(
     let Ok(mut buffer) = frame_buffer(alloc, how.form) else {
         return Err(ReceiveFault::NoMemory);
     };
-    show_frames(how.form, limit, &mut buffer, shelf, sink)
+    show_frames(how, limit, &mut buffer, shelf, sink)
 }

@@ -2,7 +2,7 @@
 
 ghost use Rattle.std.specs.Prelude.{◌≡◌, ℕ, List};
 ghost use Rattle.std.specs.declared.option.Option.{Option};
-ghost use Rattle.isdbt_base.specs.declared.stream.Form.{Form};
+ghost use Rattle.isdbt_base.specs.declared.stream.Reading.{Reading};
 ghost use Rattle.isdbt_base.specs.Outcome.{IsOutcome, product};
 ghost use Rattle.seg_receiver.specs.declared.aim.Aim.{Aim};
 ghost use Rattle.seg_receiver.specs.declared.fault.ReceiveFault.{ReceiveFault};
@@ -11,11 +11,11 @@ ghost use Rattle.seg_receiver.specs.ReceiveRefusals.{receive_is_there, receive_r
 ghost use Rattle.seg_receiver.specs.ReceiveAnswers.{given_frame};
 ghost use Rattle.seg_receiver.specs.UnreadBits.{DifferUnread};
 
-/// Two streams of a version that differ at most in bit B0 of words, in the seven upper bits of symbols' first bytes and in the
+/// Two streams that are read so and differ at most in bit B0 of words, in the seven upper bits of symbols' first bytes and in the
 /// two last bytes of heads end alike, whatever is asked of them and with any limit on frames, and the same is written for both.
 pub fn unread_law()
-    ensures outcome { (form : Form) (s t : List ℕ) (aim : Aim) (limit count : ℕ) (fault : Option ReceiveFault) → DifferUnread (view_of form s) s t → IsOutcome (receive_refusal (view_of form s) aim limit) (receive_is_there (view_of form s)) count fault
-        → IsOutcome (receive_refusal (view_of form t) aim limit) (receive_is_there (view_of form t)) count fault }
-    ensures written { (form : Form) (s t : List ℕ) (aim : Aim) (limit count : ℕ) (fault : Option ReceiveFault) → DifferUnread (view_of form s) s t → IsOutcome (receive_refusal (view_of form s) aim limit) (receive_is_there (view_of form s)) count fault
-        → product (given_frame (view_of form s) aim) count ≡ product (given_frame (view_of form t) aim) count }
+    ensures outcome { (how : Reading) (s t : List ℕ) (aim : Aim) (limit count : ℕ) (fault : Option ReceiveFault) → DifferUnread (view_of how s) s t → IsOutcome (receive_refusal (view_of how s) aim limit) (receive_is_there (view_of how s)) count fault
+        → IsOutcome (receive_refusal (view_of how t) aim limit) (receive_is_there (view_of how t)) count fault }
+    ensures written { (how : Reading) (s t : List ℕ) (aim : Aim) (limit count : ℕ) (fault : Option ReceiveFault) → DifferUnread (view_of how s) s t → IsOutcome (receive_refusal (view_of how s) aim limit) (receive_is_there (view_of how s)) count fault
+        → product (given_frame (view_of how s) aim) count ≡ product (given_frame (view_of how t) aim) count }
 {}
