@@ -178,10 +178,15 @@ pub fn show_packets(
     Ok(CodeEnd { answer, out, left })
 }
 
-/// Receives a stream of cells of this version with a limit on frames.
+/// A stream of this version, read with its TMCC words as they came.
+pub fn plain(form: Form) -> Reading {
+    Reading { form, fix: false }
+}
+
+/// Receives a stream of cells that is read so, with a limit on frames.
 pub fn receive_stream(
     alloc: Global,
-    form: Form,
+    how: Reading,
     limit: u32,
     input: &LoneInput,
     mut out: MemorySink,
@@ -190,7 +195,7 @@ pub fn receive_stream(
     requires few { limit ≤ 16777216 }
 {
     let mut shelf = lone_shelf(alloc, input)?;
-    let answer = receive(alloc, Reading { form }, limit, &mut shelf, &mut out);
+    let answer = receive(alloc, how, limit, &mut shelf, &mut out);
     let left = left_at(alloc, &mut shelf, Seat::In, input.stream.len())?;
     Ok(ReceiveEnd { answer, out, left })
 }
@@ -203,26 +208,27 @@ pub fn receive_into(
     cells: &[u8],
     out: MemorySink,
 ) -> Result<ReceiveEnd, Fail> {
-    receive_stream(alloc, Form::V1 { mode, guard }, LIMIT, &whole(cells), out)
+    let how = plain(Form::V1 { mode, guard });
+    receive_stream(alloc, how, LIMIT, &whole(cells), out)
 }
 
-/// Receives layer A alone of a stream of cells of this version.
+/// Receives layer A alone of a stream of cells that is read so.
 pub fn receive_part(
     alloc: Global,
-    form: Form,
+    how: Reading,
     input: &LoneInput,
     mut out: MemorySink,
 ) -> Result<ReceiveEnd, Fail> {
     let mut shelf = lone_shelf(alloc, input)?;
-    let answer = receive_partial(alloc, Reading { form }, LIMIT, &mut shelf, &mut out);
+    let answer = receive_partial(alloc, how, LIMIT, &mut shelf, &mut out);
     let left = left_at(alloc, &mut shelf, Seat::In, input.stream.len())?;
     Ok(ReceiveEnd { answer, out, left })
 }
 
-/// Lists the frames of a stream of cells of this version with a limit on frames.
+/// Lists the frames of a stream of cells that is read so, with a limit on frames.
 pub fn show_stream(
     alloc: Global,
-    form: Form,
+    how: Reading,
     limit: u32,
     input: &LoneInput,
     mut out: MemorySink,
@@ -231,7 +237,7 @@ pub fn show_stream(
     requires few { limit ≤ 16777216 }
 {
     let mut shelf = lone_shelf(alloc, input)?;
-    let answer = show_cells(alloc, Reading { form }, limit, &mut shelf, &mut out);
+    let answer = show_cells(alloc, how, limit, &mut shelf, &mut out);
     let left = left_at(alloc, &mut shelf, Seat::In, input.stream.len())?;
     Ok(ReceiveEnd { answer, out, left })
 }
@@ -239,7 +245,7 @@ pub fn show_stream(
 /// Receives a stream of cells of version 2.
 pub fn receive_headed(alloc: Global, cells: &[u8]) -> Result<ReceiveEnd, Fail> {
     let out = MemorySink::new(alloc, ROOM)?;
-    receive_stream(alloc, Form::V2, LIMIT, &whole(cells), out)
+    receive_stream(alloc, plain(Form::V2), LIMIT, &whole(cells), out)
 }
 
 /// What is sent of a plan: frames of broadcast packets, and their cells.

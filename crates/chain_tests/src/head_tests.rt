@@ -1,6 +1,6 @@
 //! What `receive` says of the heads of streams of version 2, and of where these end or fail.
 
-use crate::commands::{LoneInput, ROOM, receive_headed, receive_stream, send, single_cells};
+use crate::commands::{LoneInput, ROOM, plain, receive_headed, receive_stream, send, single_cells};
 use crate::epoch_rows::EPOCHS;
 use crate::head_rows::{CHANGED_HEADS, CUT_STREAMS, ChangedByte, HeadRow, OUTSIDE};
 use crate::placed::placed_packets;
@@ -198,7 +198,7 @@ fn outside_of_receive(rt: HostRuntime) -> Result<(), Fail> {
         let mut out = MemorySink::new(alloc, ROOM)?;
         out.fail_from(row.writes_until);
         let limit = row.limit.clamp(1, 1000);
-        let ended = receive_stream(alloc, Form::V2, limit, &input, out)?;
+        let ended = receive_stream(alloc, plain(Form::V2), limit, &input, out)?;
         check(&rt, ended.answer == row.answer);
         check_count(&rt, ended.left, row.left);
         let front = first_frames(whole.out.bytes(), FRAME, row.frames);

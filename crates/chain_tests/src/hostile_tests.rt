@@ -1,7 +1,7 @@
 //! Words and cells that no sender sends.
 
 use crate::commands::{
-    LIMIT, ROOM, receive_into, received, send, show_stream, single_cells, whole,
+    LIMIT, ROOM, plain, receive_into, received, send, show_stream, single_cells, whole,
 };
 use crate::partial_tests::first_form;
 use crate::placed::placed_packets;
@@ -123,7 +123,13 @@ fn check_refused(
     check(rt, ended.answer == Err(fault));
     check(rt, ended.out.bytes().is_empty());
     let out = MemorySink::new(alloc, ROOM)?;
-    let listed = show_stream(alloc, first_form(&plan_of(row)?), LIMIT, &whole(cells), out)?;
+    let listed = show_stream(
+        alloc,
+        plain(first_form(&plan_of(row)?)),
+        LIMIT,
+        &whole(cells),
+        out,
+    )?;
     check(rt, listed.answer == Err(fault));
     check(rt, listed.out.bytes().is_empty());
     Ok(())

@@ -13,6 +13,8 @@ mod epoch_rows;
 #[cfg(test)]
 mod epoch_tests;
 #[cfg(test)]
+mod fix_tests;
+#[cfg(test)]
 mod head_rows;
 #[cfg(test)]
 mod head_tests;

@@ -4,7 +4,7 @@ ghost use Rattle.std.specs.Prelude.{◌≡◌, length, IfOk};
 ghost use Rattle.isdbt_base.specs.declared.kinds.Mode.TheVariants.{M1 as first_mode};
 ghost use Rattle.seg_receiver.specs.PartialReceiver.{mode_of, symbols_of};
 
-use crate::commands::{LoneInput, ROOM, receive_part, send, single_cells, whole};
+use crate::commands::{LoneInput, ROOM, plain, receive_part, send, single_cells, whole};
 use crate::head_tests::changed_stream;
 use crate::partial_rows::{PARTIAL, PARTIAL_ENDS, PARTIAL_EPOCHS, PartialRow};
 use crate::plans::{PARTIAL_AND_WIDE, SINGLE, plan_of, plan_with};
@@ -31,7 +31,7 @@ fn check_part(
     packets: &[u8],
 ) -> Result<(), Fail> {
     let out = MemorySink::new(alloc, ROOM)?;
-    let ended = receive_part(alloc, form, &whole(cells), out)?;
+    let ended = receive_part(alloc, plain(form), &whole(cells), out)?;
     check(rt, ended.answer == Ok(frames));
     check(rt, ended.out.bytes() == packets);
     Ok(())
@@ -115,7 +115,7 @@ fn partial_ends(rt: HostRuntime) -> Result<(), Fail> {
         };
         let mut out = MemorySink::new(alloc, ROOM)?;
         out.fail_from(row.writes_until);
-        let ended = receive_part(alloc, Form::V2, &input, out)?;
+        let ended = receive_part(alloc, plain(Form::V2), &input, out)?;
         check(&rt, ended.answer == row.answer);
         check_count(&rt, ended.left, row.left);
         let front = first_frames(&packets, 188, row.packets);
@@ -144,7 +144,7 @@ fn check_refused(
 ) -> Result<(), Fail> {
     let form = first_form(&plan_of(&SINGLE)?);
     let out = MemorySink::new(alloc, ROOM)?;
-    let ended = receive_part(alloc, form, &whole(cells), out)?;
+    let ended = receive_part(alloc, plain(form), &whole(cells), out)?;
     check(rt, ended.answer == Err(fault));
     check(rt, ended.out.bytes().is_empty());
     Ok(())

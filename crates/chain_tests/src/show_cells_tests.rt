@@ -1,7 +1,7 @@
 //! What `show_cells` writes of streams of cells.
 
 use crate::commands::{
-    LIMIT, LoneInput, ROOM, receive_into, send, show_stream, single_cells, whole,
+    LIMIT, LoneInput, ROOM, plain, receive_into, send, show_stream, single_cells, whole,
 };
 use crate::head_tests::changed_stream;
 use crate::partial_tests::first_form;
@@ -34,7 +34,7 @@ pub fn check_lines(
         wanted.extend_from_slice(line.as_bytes())?;
     }
     let out = MemorySink::new(alloc, ROOM)?;
-    let ended = show_stream(alloc, form, LIMIT, &whole(cells), out)?;
+    let ended = show_stream(alloc, plain(form), LIMIT, &whole(cells), out)?;
     check_count(rt, ended.answer? as usize, lines.len());
     check(rt, ended.out.bytes() == wanted.as_slice());
     Ok(())
@@ -75,7 +75,13 @@ fn listings_end(rt: HostRuntime) -> Result<(), Fail> {
         };
         let mut out = MemorySink::new(alloc, row.room)?;
         out.fail_from(row.writes_until);
-        let ended = show_stream(alloc, Form::V2, row.limit.clamp(1, LIMIT), &input, out)?;
+        let ended = show_stream(
+            alloc,
+            plain(Form::V2),
+            row.limit.clamp(1, LIMIT),
+            &input,
+            out,
+        )?;
         check(&rt, ended.answer == row.answer);
         check_count(&rt, ended.left, row.left);
         check(

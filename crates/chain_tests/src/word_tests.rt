@@ -1,6 +1,6 @@
 //! What `receive` answers and writes where TMCC words are changed. Bits of a word are named by their numbers, B0 to B203.
 
-use crate::commands::{LIMIT, ROOM, ReceiveEnd, received, show_stream, single_cells, whole};
+use crate::commands::{LIMIT, ROOM, ReceiveEnd, plain, received, show_stream, single_cells, whole};
 use crate::partial_tests::first_form;
 use crate::plans::{SINGLE, plan_of};
 use crate::show_cells_rows::SINGLE_LINES;
@@ -141,7 +141,7 @@ fn check_listed(
 ) -> Result<(), Fail> {
     let out = MemorySink::new(alloc, ROOM)?;
     let form = first_form(&plan_of(&SINGLE)?);
-    let ended = show_stream(alloc, form, LIMIT, &whole(cells), out)?;
+    let ended = show_stream(alloc, plain(form), LIMIT, &whole(cells), out)?;
     check(rt, ended.answer == Err(fault));
     let lines = ended.out.bytes();
     let ends = lines.iter().filter(|byte| **byte == 0x0A).count();

@@ -5,6 +5,7 @@ use Rattle.std.specs.declared.option.Option.{Option}
 use Rattle.isdbt_base.specs.declared.kinds.Layer.{Layer}
 use Rattle.isdbt_base.specs.declared.stream.Writing.{Writing}
 use Rattle.isdbt_base.specs.declared.stream.Form.{Form}
+use Rattle.isdbt_base.specs.declared.stream.Reading.{Reading}
 use Rattle.isdbt_base.specs.Plans.{Transmission, Switch, Schedule, IsPlan, KeepsMode, at_frame, at_from}
 use Rattle.isdbt_base.proofs.PlanEpochs.{at_from-after, at_from-before}
 use Rattle.isdbt_base.specs.Frames.{FramePackets}
@@ -32,8 +33,9 @@ use Rattle.seg_receiver.proofs.NearHeads.{near-heads}
 use Rattle.seg_receiver.proofs.NearOutcome.{near_outcome}
 use Rattle.seg_receiver.proofs.PartialDelivered.{partial_frame-near}
 use Rattle.seg_receiver.proofs.PlanViews.{in_row, carries_partial}
+use Rattle.seg_receiver.proofs.RestoredWords.{restored-words}
 use Rattle.seg_receiver.proofs.ViewLaws.{laid}
-use Rattle.isdbt_cli.specs.Chain.{written_stream, form_of, CanCarryFor, HasFlags, IsNearFor, IsReceivedAs, WroteNear, IsChain}
+use Rattle.isdbt_cli.specs.Chain.{written_stream, form_of, CanCarryFor, HasFlags, IsNearFor, IsRestorableFor, IsReceivedAs, WroteNear, IsChain}
 use Rattle.isdbt_cli.specs.FrameLimit.{frame_limit}
 
 -- a view that is near a plan, and of which no head is refused, is received as what is delivered of it, and so is each front part of it
@@ -51,21 +53,25 @@ near_whole : (v : View) (p : Schedule) (frames : FramePackets) (count : ℕ) (pa
 near_whole v p frames count false near = near.whole
 near_whole v p frames count true near = near.whole
 
-heads_fine : (form : Form) (stream : List ℕ) (p : Schedule) (frames : FramePackets) (count : ℕ) (partial : Bool) → IsPlan p → IsNearFor partial (view_of form stream) p frames count → (partial ≡ true → NoBadHead (view_of form stream) count) → NoBadHead (view_of form stream) count
-heads_fine form stream p frames count false plan near fine = near-heads form stream p frames count plan near
-heads_fine form stream p frames count true plan near fine = fine refl
+heads_fine : (how : Reading) (stream : List ℕ) (p : Schedule) (frames : FramePackets) (count : ℕ) (partial : Bool) → IsPlan p → IsNearFor partial (view_of how stream) p frames count → (partial ≡ true → NoBadHead (view_of how stream) count) → NoBadHead (view_of how stream) count
+heads_fine how stream p frames count false plan near fine = near-heads how.fix how.form stream p frames count plan near
+heads_fine how stream p frames count true plan near fine = fine refl
 
 -- and so is a stream of a version that is near it
-pub near_stream : (form : Form) (stream : List ℕ) (p : Schedule) (frames : FramePackets) (count : ℕ) (partial : Bool) → IsPlan p → ArePackets p frames count → IsNearFor partial (view_of form stream) p frames count
-    → (partial ≡ true → NoBadHead (view_of form stream) count) → count ≤ frame_limit → IsReceivedAs partial (view_of form stream) p frames count
-near_stream form stream p frames count partial plan packets near fine few =
-    near_received (view_of form stream) p frames count partial plan (in_row form stream count (sym (laid form stream).size ∙ near_whole (view_of form stream) p frames count partial near)) (heads_fine form stream p frames count partial plan near fine) packets near few
+pub near_stream : (how : Reading) (stream : List ℕ) (p : Schedule) (frames : FramePackets) (count : ℕ) (partial : Bool) → IsPlan p → ArePackets p frames count → IsNearFor partial (view_of how stream) p frames count
+    → (partial ≡ true → NoBadHead (view_of how stream) count) → count ≤ frame_limit → IsReceivedAs partial (view_of how stream) p frames count
+near_stream how stream p frames count partial plan packets near fine few =
+    near_received (view_of how stream) p frames count partial plan (in_row how.fix how.form stream count (sym (laid how.fix how.form stream).size ∙ near_whole (view_of how stream) p frames count partial near)) (heads_fine how stream p frames count partial plan near fine) packets near few
+
+-- so is a stream whose words can be restored, where words are corrected
+pub restored_stream : (how : Reading) (stream : List ℕ) (p : Schedule) (frames : FramePackets) (count : ℕ) (partial : Bool) → how.fix ≡ true → IsRestorableFor partial (view_of how stream) p frames count → IsNearFor partial (view_of how stream) p frames count
+restored_stream how stream p frames count partial on near = near.1 (restored-words how stream p count on near.0)
 
 -- the cells of a plan are near it in each version of the stream that can carry it
-pub near_cells : (p : Schedule) (frames : FramePackets) (count : ℕ) (form : Form) (partial : Bool) → IsPlan p → CanCarryFor partial form p count → ArePackets p frames count → HasFlags partial p count
-    → IsNearFor partial (view_of form (product (sent_frame (writing_of form) p frames) count)) p frames count
-near_cells p frames count form false plan carries packets flags = plan_cells-near form p frames count plan carries packets
-near_cells p frames count form true plan carries packets flags = plan_cells-near_partial form p frames count plan carries packets (λ f h. flags f h refl)
+pub near_cells : (p : Schedule) (frames : FramePackets) (count : ℕ) (how : Reading) (partial : Bool) → IsPlan p → CanCarryFor partial how.form p count → ArePackets p frames count → HasFlags partial p count
+    → IsNearFor partial (view_of how (product (sent_frame (writing_of how.form) p frames) count)) p frames count
+near_cells p frames count how false plan carries packets flags = plan_cells-near how p frames count plan carries packets
+near_cells p frames count how true plan carries packets flags = plan_cells-near_partial how p frames count plan carries packets (λ f h. flags f h refl)
 
 carries_for : (form : Form) (p : Schedule) (count : ℕ) (partial : Bool) → CanCarry form p count → CanCarryFor partial form p count
 carries_for form p count false carries = carries
@@ -77,23 +83,23 @@ pub coded_multiplex : (how : Writing) (p : Schedule) (input : Layer → List ℕ
 coded_multiplex how p input count plan good bytes =
     coded-broadcast how p (multiplexed p input) count plan (sizes_of p (multiplexed p input) count (multiplexed-packets p input count good bytes))
 
-pub chain : (p : Schedule) (form : Form) (input : Layer → List ℕ) (count : ℕ) → IsPlan p → CanCarry form p count → ((x : Layer) → IsGood (input x)) → ((x : Layer) → IsBytes (input x))
-    → count ≤ frame_limit → IsChain p input form count
-chain p form input count plan carries good bytes few =
+pub chain : (p : Schedule) (how : Reading) (input : Layer → List ℕ) (count : ℕ) → IsPlan p → CanCarry how.form p count → ((x : Layer) → IsGood (input x)) → ((x : Layer) → IsBytes (input x))
+    → count ≤ frame_limit → IsChain p input how count
+chain p how input count plan carries good bytes few =
     let sent = multiplexed-packets p input count good bytes in
-    let same = coded_multiplex (writing_of form) p input count plan good bytes in
+    let same = coded_multiplex (writing_of how.form) p input count plan good bytes in
     let all = accepted-written p input count frame_limit plan good bytes few in
-    let near = plan_cells-near form p (multiplexed p input) count plan carries sent in
+    let near = plan_cells-near how p (multiplexed p input) count plan carries sent in
     record {
       coded = all;
       free = free p (written_stream p input count) frame_limit count all;
       cells = same;
-      near = subst (λ cells. IsNear (view_of form cells) p (multiplexed p input) count) (sym same) near;
+      near = subst (λ cells. IsNear (view_of how cells) p (multiplexed p input) count) (sym same) near;
       packets = sent;
-      received = λ partial flags. subst (λ cells. IsReceivedAs partial (view_of form cells) p (multiplexed p input) count) (sym same)
-          (near_stream form (product (sent_frame (writing_of form) p (multiplexed p input)) count) p (multiplexed p input) count partial plan sent
-          (near_cells p (multiplexed p input) count form partial plan (carries_for form p count partial carries) sent flags)
-          (λ e. near-heads form (product (sent_frame (writing_of form) p (multiplexed p input)) count) p (multiplexed p input) count plan near) few);
+      received = λ partial flags. subst (λ cells. IsReceivedAs partial (view_of how cells) p (multiplexed p input) count) (sym same)
+          (near_stream how (product (sent_frame (writing_of how.form) p (multiplexed p input)) count) p (multiplexed p input) count partial plan sent
+          (near_cells p (multiplexed p input) count how partial plan (carries_for how.form p count partial carries) sent flags)
+          (λ e. near-heads how.fix how.form (product (sent_frame (writing_of how.form) p (multiplexed p input)) count) p (multiplexed p input) count plan near) few);
       places = input_delivered p input;
     }
 
@@ -133,27 +139,27 @@ can_carry how p count keeps = go how.v2 keeps
     go false keeps = sends_alike p count (keeps refl)
 
 -- in a version that can carry the plan, the cells of an input are near the packets that are found in it
-found_near : (form : Form) (p : Schedule) (input : List ℕ) (m : ℕ) (o : Option ℕ) → IsPlan p → CanCarry form p m → IsBytes input
+found_near : (how : Reading) (p : Schedule) (input : List ℕ) (m : ℕ) (o : Option ℕ) → IsPlan p → CanCarry how.form p m → IsBytes input
     → ArePassed (code_refusal p input frame_limit) (is_there p input) m → first_head input ≡ o
-    → ArePackets p (frames_from p input o) m × IsNear (view_of form (product (coded_frame (writing_of form) p input) m)) p (frames_from p input o) m
-found_near form p input m None plan carries bytes passed found =
-    let how = writing_of form in
-    let empty = coded-none how p input m frame_limit passed found in
+    → ArePackets p (frames_from p input o) m × IsNear (view_of how (product (coded_frame (writing_of how.form) p input) m)) p (frames_from p input o) m
+found_near how p input m None plan carries bytes passed found =
+    let writing = writing_of how.form in
+    let empty = coded-none writing p input m frame_limit passed found in
     let frames : FramePackets = frames_from p input None in
     let packets : ArePackets p frames m = λ f j x l less used within. absurd (omega (arith, less, empty.0)) in
-    let near = plan_cells-near form p frames m plan carries packets in
-    let same : product (sent_frame how p frames) m ≡ product (coded_frame how p input) m = product-same (sent_frame how p frames) (coded_frame how p input) m
+    let near = plan_cells-near how p frames m plan carries packets in
+    let same : product (sent_frame writing p frames) m ≡ product (coded_frame writing p input) m = product-same (sent_frame writing p frames) (coded_frame writing p input) m
     (λ f less. absurd (omega (arith, less, empty.0))) in
-    (packets, subst (λ cells. IsNear (view_of form cells) p frames m) same near)
-found_near form p input m (Some head) plan carries bytes passed found = coded-near form p input m frame_limit head plan bytes passed carries found
+    (packets, subst (λ cells. IsNear (view_of how cells) p frames m) same near)
+found_near how p input m (Some head) plan carries bytes passed found = coded-near form p input m frame_limit head plan bytes passed carries found
 
 pub wrote_near : (how : Writing) (p : Schedule) (input : List ℕ) (m : ℕ) (before after left : Option (List ℕ)) → IsPlan p → (how.v2 ≡ false → KeepsMode p.first p.switches) → IsBytes input
     → Finished (code_command how p input frame_limit) m before after left → WroteNear how p input m before after
 wrote_near how p input m before after left plan keeps bytes done =
-    let form = form_of how p in
-    let found = found_near form p input m (first_head input) plan (can_carry how p m keeps) bytes done.ended.outcome.before refl in
+    let read : Bool → Reading = λ fix. record { form = form_of how p; fix = fix } in
+    let found = λ (fix : Bool). found_near (read fix) p input m (first_head input) plan (can_carry how p m keeps) bytes done.ended.outcome.before refl in
     record {
-      packets = found.0;
-      near = subst (λ w. IsNear (view_of form (product (coded_frame w p input) m)) p (frames_from p input (first_head input)) m) (written_so how p) found.1;
+      packets = (found false).0;
+      near = λ fix. subst (λ w. IsNear (view_of (read fix) (product (coded_frame w p input) m)) p (frames_from p input (first_head input)) m) (written_so how p) (found fix).1;
       written = done.ended.written;
     }

@@ -5,8 +5,9 @@ use Rattle.isdbt_base.specs.Plans.{Schedule, KeepsMode}
 use Rattle.isdbt_base.specs.declared.stream.Writing.{Writing}
 use Rattle.isdbt_cli.specs.CommandLines.{version_words, IsName, code, SpellCommand, Spells}
 use Rattle.setting_words.specs.SettingWords.{Word}
-use Rattle.isdbt_cli.specs.Parsing.{Unread, Reads, BeginsWith, IsStuck, Follows, SpellsPlan, HasNoFrame, SpellLast}
+use Rattle.isdbt_cli.specs.Parsing.{Unread, Reads, BeginsWith, IsStuck, Follows, SpellsPlan, HasNoFrame, SomeOf}
 use Rattle.isdbt_cli.proofs.Stuck.{stuck_behind}
+use Rattle.isdbt_cli.proofs.ToldWords.{told_only, only_told}
 use Rattle.isdbt_cli.proofs.Transmissions.{same_tail}
 use Rattle.isdbt_cli.proofs.CommandWords.{input_words, code_words, spell_code}
 use Rattle.isdbt_cli.proofs.PlanLines.{some_inputs, line_follows, follows_line, line_behind, inputs_behind, inputs_next}
@@ -29,9 +30,13 @@ name_follows p read v s none ws f heads =
     let n = inputs_next true p ws v (line_behind true p read ws s (follows_line true (read ++ ws) f)) none heads in
     (n.name, n.input_name, version_words n.how.v2, n.words_are)
 
+-- what stands behind the input
+abbrev pub version : Bool → List (Word × Bool)
+version wanted = (codes "v2", wanted) ∷ []
+
 -- the version of the stream, which is wanted just where the plan doesn't keep its mode and guard interval
 module _ (p : Schedule) (read : List Word) (name : Word) (wanted : Bool) (s : SpellsPlan p read) where
-  follows_version : IsName name → (wanted ≡ false → KeepsMode p.first p.switches) → (ws : List Word) → SpellLast (codes "v2") wanted ws → Line read (input_words name ++ ws)
+  follows_version : IsName name → (wanted ≡ false → KeepsMode p.first p.switches) → (ws : List Word) → SomeOf (version wanted) ws → Line read (input_words name ++ ws)
   follows_version some keeps ws v =
       let how : Writing = record { v2 = v.0 } in
       line_follows true (read ++ ((codes "IN=" ++ name) ∷ ws)) (record {
@@ -39,22 +44,22 @@ module _ (p : Schedule) (read : List Word) (name : Word) (wanted : Bool) (s : Sp
         read = read;
         spells = s;
         rest = code_words how name;
-        inputs = record { how = how; name = name; keeps = λ e. keeps (v.1 e); input_name = some; words_are = refl };
-        words_are = ap (λ (zs : List Word). read ++ ((codes "IN=" ++ name) ∷ zs)) v.2;
+        inputs = record { how = how; name = name; keeps = λ e. keeps (v.2 e); input_name = some; words_are = refl };
+        words_are = ap (λ (zs : List Word). read ++ ((codes "IN=" ++ name) ∷ zs)) (told_only (codes "v2") wanted ws v);
       })
 
-  version_follows : (KeepsMode p.first p.switches → wanted ≡ false) → (ws : List Word) → Line read (input_words name ++ ws) → SpellLast (codes "v2") wanted ws
+  version_follows : (KeepsMode p.first p.switches → wanted ≡ false) → (ws : List Word) → Line read (input_words name ++ ws) → SomeOf (version wanted) ws
   version_follows keeps ws f =
       let words : List Word = (codes "IN=" ++ name) ∷ ws in
       let n = inputs_behind true p words (line_behind true p read words s (follows_line true (read ++ words) f)) refl in
-      (n.how.v2, (λ e. keeps (n.keeps e)), same_tail n.words_are)
+      only_told (codes "v2") wanted n.how.v2 ws (λ e. keeps (n.keeps e)) (same_tail n.words_are)
 
   -- where it gets stuck, the line does
   pub stuck_version : IsName name → (wanted ≡ false → KeepsMode p.first p.switches) → (KeepsMode p.first p.switches → wanted ≡ false)
-      → (u v w : Unread) (place : ℕ) → Reads read u v → Reads (input_words name) v w → IsStuck (SpellLast (codes "v2") wanted) w place → IsStuck (Follows (codes "code")) u place
+      → (u v w : Unread) (place : ℕ) → Reads read u v → Reads (input_words name) v w → IsStuck (SomeOf (version wanted)) w place → IsStuck (Follows (codes "code")) u place
   stuck_version some told keeps u v w place reads named stuck =
       stuck_behind (Line read) (Follows (codes "code")) read u v place reads (λ ws f. f) (λ ws f. f)
-      (stuck_behind (SpellLast (codes "v2") wanted) (Line read) (input_words name) v w place named (follows_version some told) (version_follows keeps) stuck)
+      (stuck_behind (SomeOf (version wanted)) (Line read) (input_words name) v w place named (follows_version some told) (version_follows keeps) stuck)
 
 pub spells : (p : Schedule) (how : Writing) (read : List Word) (name : Word) (words : List Word) → SpellsPlan p read → (how.v2 ≡ false → KeepsMode p.first p.switches)
     → IsName name → words ≡ read ++ code_words how name → Spells (codes "code" ∷ words) (code p how name)

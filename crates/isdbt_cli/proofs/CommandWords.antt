@@ -6,9 +6,9 @@ use Rattle.std.specs.declared.option.Option.{Option}
 use Rattle.isdbt_base.specs.declared.kinds.Mode.{Mode}
 use Rattle.isdbt_base.specs.declared.kinds.Guard.{Guard}
 use Rattle.isdbt_base.specs.declared.stream.Writing.{Writing}
-use Rattle.isdbt_base.specs.declared.stream.Form.{Form}
+use Rattle.isdbt_base.specs.declared.stream.Reading.{Reading}
 use Rattle.isdbt_base.specs.Plans.{Schedule}
-use Rattle.isdbt_cli.specs.CommandLines.{SpellPlan, told_words, other_input_words, version_words, form_words, part_words, Command, remux, code, receive, show_bts, show_cells, sample, SpellCommand}
+use Rattle.isdbt_cli.specs.CommandLines.{SpellPlan, told_words, other_input_words, version_words, form_words, part_words, fix_words, Command, remux, code, receive, show_bts, show_cells, sample, SpellCommand}
 use Rattle.setting_words.specs.SettingWords.{Word}
 use Rattle.isdbt_cli.specs.Parsing.{named}
 use Rattle.isdbt_cli.proofs.Transmissions.{same_head}
@@ -32,9 +32,12 @@ input_words name = (codes "IN=" ++ name) ∷ []
 abbrev pub code_words : Writing → Word → List Word
 code_words how name = (codes "IN=" ++ name) ∷ version_words how.v2
 
--- a receiving's: its input, and whether reception is partial
-abbrev pub receive_words : Bool → Word → List Word
-receive_words partial name = (codes "IN=" ++ name) ∷ part_words partial
+-- a receiving's, behind its input: whether reception is partial, and whether words are corrected
+abbrev pub reception_words : Bool → Bool → List Word
+reception_words partial fix = part_words partial ++ fix_words fix
+
+abbrev pub receive_words : Bool → Bool → Word → List Word
+receive_words partial fix name = (codes "IN=" ++ name) ∷ reception_words partial fix
 
 pub spell_remux : (p : Schedule) (a : Word) (b c : Option Word) (plan : List Word) → SpellPlan p plan → SpellCommand (remux p a b c) (codes "remux" ∷ (plan ++ names_words a b c))
 unfolding SpellCommand
@@ -55,20 +58,20 @@ pub code_spelled : (p : Schedule) (how : Writing) (name : Word) (words : List Wo
 unfolding SpellCommand
 code_spelled p how name words s = s
 
-pub spell_receive : (form : Form) (partial : Bool) (name : Word) → SpellCommand (receive form partial name) (codes "receive" ∷ (form_words form ++ receive_words partial name))
+pub spell_receive : (how : Reading) (partial : Bool) (name : Word) → SpellCommand (receive how partial name) (codes "receive" ∷ (form_words how.form ++ receive_words partial how.fix name))
 unfolding SpellCommand
-spell_receive form partial name = refl
+spell_receive how partial name = refl
 
-pub receive_spelled : (form : Form) (partial : Bool) (name : Word) (words : List Word) → SpellCommand (receive form partial name) words → words ≡ codes "receive" ∷ (form_words form ++ receive_words partial name)
+pub receive_spelled : (how : Reading) (partial : Bool) (name : Word) (words : List Word) → SpellCommand (receive how partial name) words → words ≡ codes "receive" ∷ (form_words how.form ++ receive_words partial how.fix name)
 unfolding SpellCommand
-receive_spelled form partial name words s = s
+receive_spelled how partial name words s = s
 
 -- a showing's
 abbrev pub bts_words : Mode → Guard → Word → List Word
 bts_words mode guard name = told_words true mode guard ++ input_words name
 
-abbrev pub cells_words : Form → Word → List Word
-cells_words form name = form_words form ++ input_words name
+abbrev pub cells_words : Reading → Word → List Word
+cells_words how name = form_words how.form ++ ((codes "IN=" ++ name) ∷ fix_words how.fix)
 
 pub spell_bts : (mode : Mode) (guard : Guard) (name : Word) → SpellCommand (show_bts mode guard name) (codes "show" ∷ codes "bts" ∷ bts_words mode guard name)
 unfolding SpellCommand
@@ -78,13 +81,13 @@ pub bts_spelled : (mode : Mode) (guard : Guard) (name : Word) (words : List Word
 unfolding SpellCommand
 bts_spelled mode guard name words s = s
 
-pub spell_cells : (form : Form) (name : Word) → SpellCommand (show_cells form name) (codes "show" ∷ codes "cells" ∷ cells_words form name)
+pub spell_cells : (how : Reading) (name : Word) → SpellCommand (show_cells how name) (codes "show" ∷ codes "cells" ∷ cells_words how name)
 unfolding SpellCommand
-spell_cells form name = refl
+spell_cells how name = refl
 
-pub cells_spelled : (form : Form) (name : Word) (words : List Word) → SpellCommand (show_cells form name) words → words ≡ codes "show" ∷ codes "cells" ∷ cells_words form name
+pub cells_spelled : (how : Reading) (name : Word) (words : List Word) → SpellCommand (show_cells how name) words → words ≡ codes "show" ∷ codes "cells" ∷ cells_words how name
 unfolding SpellCommand
-cells_spelled form name words s = s
+cells_spelled how name words s = s
 
 pub spell_sample : (number : ℕ) → SpellCommand (sample number) (codes "sample" ∷ decimal number ∷ [])
 unfolding SpellCommand
@@ -99,17 +102,17 @@ sample_spelled number words s = s
 abbrev pub name_of : Command → Word
 name_of (remux p a b c) = codes "remux"
 name_of (code p how name) = codes "code"
-name_of (receive form partial name) = codes "receive"
+name_of (receive how partial name) = codes "receive"
 name_of (show_bts mode guard name) = codes "show"
-name_of (show_cells form name) = codes "show"
+name_of (show_cells how name) = codes "show"
 name_of (sample number) = codes "sample"
 
 pub first_word : (c : Command) (words : List Word) → SpellCommand c words → (rest : List Word) × (words ≡ name_of c ∷ rest)
 first_word (remux p a b c) words s = (let k = remux_spelled p a b c words s in (k.0 ++ names_words a b c, k.2))
 first_word (code p how name) words s = (let k = code_spelled p how name words s in (k.0 ++ code_words how name, k.2))
-first_word (receive form partial name) words s = (form_words form ++ receive_words partial name, receive_spelled form partial name words s)
+first_word (receive how partial name) words s = (form_words how.form ++ receive_words partial how.fix name, receive_spelled how partial name words s)
 first_word (show_bts mode guard name) words s = (codes "bts" ∷ bts_words mode guard name, bts_spelled mode guard name words s)
-first_word (show_cells form name) words s = (codes "cells" ∷ cells_words form name, cells_spelled form name words s)
+first_word (show_cells how name) words s = (codes "cells" ∷ cells_words how name, cells_spelled how name words s)
 first_word (sample number) words s = (decimal number ∷ [], sample_spelled number words s)
 
 -- words that are told apart differ

@@ -1,5 +1,5 @@
 pub mod Numbers
-pub mod LastWords
+pub mod ToldWords
 pub mod Stuck
 pub mod Transmissions
 pub mod CommandWords

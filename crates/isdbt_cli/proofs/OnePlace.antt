@@ -5,14 +5,14 @@ use Rattle.std.proofs.lemmas.Fmt.{decimal_injective}
 use Rattle.std.proofs.lemmas.List.{take-take, take_all, append-nil, append_cancel_left}
 use Rattle.std.proofs.lemmas.Bool.{cases_lt}
 use Rattle.isdbt_base.specs.Plans.{Schedule}
-use Rattle.isdbt_cli.specs.CommandLines.{form_words, part_words, Command, remux, code, receive, show_bts, show_cells, sample, Spells, CanGoOn, IsFaultAt}
+use Rattle.isdbt_cli.specs.CommandLines.{form_words, fix_words, Command, remux, code, receive, show_bts, show_cells, sample, Spells, CanGoOn, IsFaultAt}
 use Rattle.setting_words.specs.SettingWords.{Word}
 use Rattle.isdbt_cli.proofs.Transmissions.{same_head, same_tail, mode_word-injective, guard_word-injective}
-use Rattle.isdbt_cli.proofs.CommandWords.{names_words, code_words, receive_words, bts_words, cells_words, remux_spelled, code_spelled, receive_spelled, bts_spelled, cells_spelled, sample_spelled}
+use Rattle.isdbt_cli.proofs.CommandWords.{names_words, code_words, receive_words, reception_words, bts_words, cells_words, remux_spelled, code_spelled, receive_spelled, bts_spelled, cells_spelled, sample_spelled}
 use Rattle.isdbt_cli.proofs.PlanLines.{remux_line, code_line, line_of, same_line}
-use Rattle.isdbt_cli.proofs.LastWords.{told_last-injective}
+use Rattle.isdbt_cli.proofs.ToldWords.{told_word-injective}
 use Rattle.isdbt_cli.proofs.CellsSpelling.{same_form}
-use Rattle.isdbt_cli.proofs.ReceiveSpelling.{received}
+use Rattle.isdbt_cli.proofs.ReceiveSpelling.{received, same_reception}
 use Rattle.isdbt_cli.proofs.ShowSpelling.{bts_followed, cells_shown}
 use Rattle.isdbt_cli.proofs.SampleSpelling.{followed}
 use Rattle.isdbt_cli.proofs.Spelling.{same_names}
@@ -75,14 +75,16 @@ one_command words (code p how name) d s t =
     let n = l.0.inputs in
     let same = same_line true line (code_line p how name k.0 line s.command k.1 refl) l.0 in
     let behind = same.1 ∙ n.words_are in
-    let versions : how.v2 ≡ n.how.v2 = told_last-injective (codes "v2") how.v2 n.how.v2 (same_tail behind) in
+    let versions : how.v2 ≡ n.how.v2 = told_word-injective (codes "v2") how.v2 n.how.v2 (same_tail behind) in
     let names : name ≡ n.name = append_cancel_left (codes "IN=") name n.name (same_head behind) in
     ap (λ x. code x how name) same.0 ∙ ap (λ x. code l.0.p (record { v2 = x }) name) versions ∙ ap (λ x. code l.0.p n.how x) names ∙ sym l.1
-one_command words (receive form partial name) d s t =
-    let line : List Word = form_words form ++ receive_words partial name in
-    let r = received line (d, moved words (codes "receive" ∷ line) d (receive_spelled form partial name words s.spelled) t) in
-    let same = same_form form r.form name r.name (part_words partial) (part_words r.partial) r.words_are in
-    ap (λ x. receive x partial name) same.0 ∙ ap (λ x. receive r.form x name) (told_last-injective (codes "partial") partial r.partial same.2) ∙ ap (λ x. receive r.form r.partial x) same.1 ∙ sym r.is
+one_command words (receive how partial name) d s t =
+    let line : List Word = form_words how.form ++ receive_words partial how.fix name in
+    let r = received line (d, moved words (codes "receive" ∷ line) d (receive_spelled how partial name words s.spelled) t) in
+    let same = same_form how.form r.how.form name r.name (reception_words partial how.fix) (reception_words r.partial r.how.fix) r.words_are in
+    let told = same_reception partial how.fix r.partial r.how.fix same.2 in
+    ap (λ x. receive (record { form = x; fix = how.fix }) partial name) same.0 ∙ ap (λ x. receive (record { form = r.how.form; fix = x }) partial name) told.1
+    ∙ ap (λ x. receive r.how x name) told.0 ∙ ap (λ x. receive r.how r.partial x) same.1 ∙ sym r.is
 one_command words (show_bts mode guard name) d s t =
     let line : List Word = bts_words mode guard name in
     let r = bts_followed line (d, moved words (codes "show" ∷ codes "bts" ∷ line) d (bts_spelled mode guard name words s.spelled) t) in
@@ -90,11 +92,12 @@ one_command words (show_bts mode guard name) d s t =
     let guards : guard ≡ r.guard = guard_word-injective guard r.guard (same_head (same_tail r.words_are)) in
     let names : name ≡ r.name = append_cancel_left (codes "IN=") name r.name (same_head (same_tail (same_tail r.words_are))) in
     ap (λ x. show_bts x guard name) modes ∙ ap (λ x. show_bts r.mode x name) guards ∙ ap (λ x. show_bts r.mode r.guard x) names ∙ sym r.is
-one_command words (show_cells form name) d s t =
-    let line : List Word = cells_words form name in
-    let r = cells_shown line (d, moved words (codes "show" ∷ codes "cells" ∷ line) d (cells_spelled form name words s.spelled) t) in
-    let same = same_form form r.form name r.name [] [] r.words_are in
-    ap (λ x. show_cells x name) same.0 ∙ ap (λ x. show_cells r.form x) same.1 ∙ sym r.is
+one_command words (show_cells how name) d s t =
+    let line : List Word = cells_words how name in
+    let r = cells_shown line (d, moved words (codes "show" ∷ codes "cells" ∷ line) d (cells_spelled how name words s.spelled) t) in
+    let same = same_form how.form r.how.form name r.name (fix_words how.fix) (fix_words r.how.fix) r.words_are in
+    let told = told_word-injective (codes "fix") how.fix r.how.fix same.2 in
+    ap (λ x. show_cells (record { form = x; fix = how.fix }) name) same.0 ∙ ap (λ x. show_cells (record { form = r.how.form; fix = x }) name) told ∙ ap (λ x. show_cells r.how x) same.1 ∙ sym r.is
 one_command words (sample number) d s t =
     let line : List Word = decimal number ∷ [] in
     let r = followed line (d, moved words (codes "sample" ∷ line) d (sample_spelled number words s.spelled) t) in

@@ -12,7 +12,7 @@ use Rattle.isdbt_base.specs.declared.kinds.Rate.{Rate}
 use Rattle.isdbt_base.specs.declared.kinds.DepthCode.{DepthCode}
 use Rattle.isdbt_base.specs.Parameters.{Parameters}
 use Rattle.isdbt_base.specs.Plans.{Transmission, Switch}
-use Rattle.isdbt_cli.specs.CommandLines.{remux, code, receive, SpellSwitches, SpellCommand}
+use Rattle.isdbt_cli.specs.CommandLines.{remux, code, receive, show_cells, SpellSwitches, SpellCommand}
 use Rattle.setting_words.specs.SettingWords.{setting_word}
 
 -- one layer
@@ -70,13 +70,22 @@ changing = (
 )
 
 -- a receiving, of a stream of each version
-receiving : SpellCommand (receive (V1 M2 G16) false (codes "x.cells")) (codes "receive" ∷ codes "2" ∷ codes "1/16" ∷ codes "IN=x.cells" ∷ [])
+receiving : SpellCommand (receive (record { form = V1 M2 G16; fix = false }) false (codes "x.cells")) (codes "receive" ∷ codes "2" ∷ codes "1/16" ∷ codes "IN=x.cells" ∷ [])
 unfolding SpellCommand
 receiving = refl
 
-receiving_heads : SpellCommand (receive V2 false (codes "x.cells")) (codes "receive" ∷ codes "IN=x.cells" ∷ [])
+receiving_heads : SpellCommand (receive (record { form = V2; fix = false }) false (codes "x.cells")) (codes "receive" ∷ codes "IN=x.cells" ∷ [])
 unfolding SpellCommand
 receiving_heads = refl
+
+-- in part, with words corrected; and a listing
+receiving_part : SpellCommand (receive (record { form = V2; fix = true }) true (codes "x.cells")) (codes "receive" ∷ codes "IN=x.cells" ∷ codes "partial" ∷ codes "fix" ∷ [])
+unfolding SpellCommand
+receiving_part = refl
+
+listing : SpellCommand (show_cells (record { form = V1 M1 G4; fix = true }) (codes "x.cells")) (codes "show" ∷ codes "cells" ∷ codes "1" ∷ codes "1/4" ∷ codes "IN=x.cells" ∷ codes "fix" ∷ [])
+unfolding SpellCommand
+listing = refl
 
 -- the same lengths of time interleaving in mode 2
 mode_2 : setting_word M2 (record { partial = false; a = record { segments = 6; modulation = Qam64; rate = R56; depth = D3 }; b = Some (record { segments = 7; modulation = Qpsk; rate = R12; depth = D1 }); c = None })

@@ -8,7 +8,7 @@ use Rattle.isdbt_base.specs.declared.kinds.Layer.{Layer}
 use Rattle.isdbt_base.specs.Outcome.{product, IsOutcome}
 use Rattle.isdbt_base.specs.Plans.{Schedule}
 use Rattle.isdbt_base.specs.declared.stream.Writing.{Writing}
-use Rattle.isdbt_base.specs.declared.stream.Form.{Form}
+use Rattle.isdbt_base.specs.declared.stream.Reading.{Reading}
 use Rattle.edge_io.specs.declared.shelf.Seat.{Seat}
 use Rattle.edge_io.specs.declared.shelf.Seat.TheVariants as seats
 use Rattle.edge_io.specs.Known.{append_known}
@@ -49,9 +49,9 @@ use Rattle.isdbt_cli.proofs.Outcomes.{KeepsKind, remux_keeps, code_keeps, receiv
 not_usage : (c : Command) (shelf shelf' : Cause → ℕ) (sink sink' : ℕ) (outcome : Outcome) (word : ℕ) → CauseOf c shelf shelf' sink sink' outcome → outcome ≡ Fault (Usage word) → ⊥
 not_usage (remux p a b c) shelf shelf' sink sink' outcome word cause e = no_usage run_fault_of remux_kind _ _ outcome word remux_keeps cause e
 not_usage (code p how name) shelf shelf' sink sink' outcome word cause e = no_usage run_fault_of_code code_kind _ _ outcome word code_keeps cause e
-not_usage (receive form partial name) shelf shelf' sink sink' outcome word cause e = no_usage run_fault_of_receive receive_kind _ _ outcome word receive_keeps cause e
+not_usage (receive how partial name) shelf shelf' sink sink' outcome word cause e = no_usage run_fault_of_receive receive_kind _ _ outcome word receive_keeps cause e
 not_usage (show_bts mode guard name) shelf shelf' sink sink' outcome word cause e = no_usage run_fault_of_code code_kind _ _ outcome word code_keeps cause e
-not_usage (show_cells form name) shelf shelf' sink sink' outcome word cause e = no_usage run_fault_of_receive receive_kind _ _ outcome word receive_keeps cause e
+not_usage (show_cells how name) shelf shelf' sink sink' outcome word cause e = no_usage run_fault_of_receive receive_kind _ _ outcome word receive_keeps cause e
 not_usage (sample number) shelf shelf' sink sink' outcome word cause e = no_usage run_fault_of_sample sample_kind _ _ outcome word sample_keeps cause e
 
 pub ok_usage : (words : List Word) (c : Command) (shelf shelf' : Cause → ℕ) (sink sink' : ℕ) (outcome : Outcome) (word : ℕ) → Spells words c → CauseOf c shelf shelf' sink sink' outcome → (outcome ≡ Fault (Usage word)) ↔ IsFaultAt words word
@@ -106,11 +106,11 @@ module _ (holds : Word → Option (List ℕ)) (before after : Option (List ℕ))
       (layer_named p a b n is) none IsDoneOrNoMemory tt (λ f r. absurd (let at = r.ended.outcome.at in let fine = free.2 r.frame in cc))
       (RemuxAnswer p free.0 frame_limit before after left) outcome (λ m done. tt) (λ f fault. fault) (says free.0 free.1) cause
   complete (code p how name) is says cause none free = lone run_fault_of_code code_kind code_keeps (code_command how p free.0 frame_limit) name none free.2 (says free.0 free.1) cause
-  complete (receive form partial name) is says cause none free =
-      lone run_fault_of_receive receive_kind receive_keeps (receive_command (view_of form free.0) (aim_of partial) free.0 frame_limit) name none free.2 (says free.0 free.1) cause
+  complete (receive how partial name) is says cause none free =
+      lone run_fault_of_receive receive_kind receive_keeps (receive_command (view_of how free.0) (aim_of partial) free.0 frame_limit) name none free.2 (says free.0 free.1) cause
   complete (show_bts mode guard name) is says cause none free = lone run_fault_of_code code_kind code_keeps (show_command mode guard free.0 frame_limit) name none free.2 (says free.0 free.1) cause
-  complete (show_cells form name) is says cause none free =
-      lone run_fault_of_receive receive_kind receive_keeps (receive_command (view_of form free.0) Lines free.0 frame_limit) name none free.2 (says free.0 free.1) cause
+  complete (show_cells how name) is says cause none free =
+      lone run_fault_of_receive receive_kind receive_keeps (receive_command (view_of how free.0) Lines free.0 frame_limit) name none free.2 (says free.0 free.1) cause
   complete (sample number) is says cause none free = sampled_so number IsDoneOrNoMemory tt (λ m done. tt) says cause none
 
   -- the text of a sample
@@ -143,10 +143,10 @@ module _ (holds : Word → Option (List ℕ)) (before after : Option (List ℕ))
       (λ m done. (let e = same_count (code_refusal p input frame_limit) (is_there p input) m count None None done.ended.outcome all in (e, done.ended.written ∙ ap (λ k. append_known before (product (coded_frame how p input) k)) e ∙ ap (append_known before) same)))
       (λ f fault. fault) says cause
 
-  pub given : (form : Form) (partial : Bool) (name : Word) (stream : List ℕ) (count : ℕ) (packets : List ℕ) → EndsSo run_fault_of_receive (λ seat. after ≡ before) (LoneAnswer receive_kind (receive_command (view_of form stream) (aim_of partial) stream frame_limit) before after (left seats.In)) outcome → CauseOf (receive form partial name) shelf shelf' sink sink' outcome
-      → NothingRose (lone_name name) shelf shelf' sink sink' → IsOutcome (receive_refusal (view_of form stream) (aim_of partial) frame_limit) (receive_is_there (view_of form stream)) count None → received_for partial (view_of form stream) count ≡ packets → IsDoneWith count packets before after outcome
-  given form partial name stream count packets says cause none all same =
-      let v = view_of form stream in
+  pub given : (how : Reading) (partial : Bool) (name : Word) (stream : List ℕ) (count : ℕ) (packets : List ℕ) → EndsSo run_fault_of_receive (λ seat. after ≡ before) (LoneAnswer receive_kind (receive_command (view_of how stream) (aim_of partial) stream frame_limit) before after (left seats.In)) outcome → CauseOf (receive how partial name) shelf shelf' sink sink' outcome
+      → NothingRose (lone_name name) shelf shelf' sink sink' → IsOutcome (receive_refusal (view_of how stream) (aim_of partial) frame_limit) (receive_is_there (view_of how stream)) count None → received_for partial (view_of how stream) count ≡ packets → IsDoneWith count packets before after outcome
+  given how partial name stream count packets says cause none all same =
+      let v = view_of how stream in
       quiet run_fault_of_receive receive_kind receive_keeps (receive_command v (aim_of partial) stream frame_limit).frames (lone_account (receive_command v (aim_of partial) stream frame_limit) (left seats.In)) (λ seat. seat ≡ seats.In) (lone_name name) before after shelf shelf' sink sink'
       (lone_named name) none (IsDoneWith count packets before after) tt (λ f r. absurd (no_refusal (receive_refusal v (aim_of partial) frame_limit) (receive_is_there v) count r.frame f all r.ended.outcome))
       (LoneAnswer receive_kind (receive_command v (aim_of partial) stream frame_limit) before after (left seats.In)) outcome

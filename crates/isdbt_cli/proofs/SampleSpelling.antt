@@ -21,9 +21,9 @@ follows number few = (sample number, record { command = few; spelled = spell_sam
 pub followed : (words : List Word) (f : Follows (codes "sample") words) → IsSample words f.0
 followed words (remux p a b c, s) = absurd (other_command (remux p a b c) (codes "sample") words (unlike (codes "sample") (codes "remux") refl refl) s.spelled)
 followed words (code p how name, s) = absurd (other_command (code p how name) (codes "sample") words (unlike (codes "sample") (codes "code") refl refl) s.spelled)
-followed words (receive form partial name, s) = absurd (other_command (receive form partial name) (codes "sample") words (unlike (codes "sample") (codes "receive") refl refl) s.spelled)
+followed words (receive how partial name, s) = absurd (other_command (receive how partial name) (codes "sample") words (unlike (codes "sample") (codes "receive") refl refl) s.spelled)
 followed words (show_bts mode guard name, s) = absurd (other_command (show_bts mode guard name) (codes "sample") words (unlike (codes "sample") (codes "show") refl refl) s.spelled)
-followed words (show_cells form name, s) = absurd (other_command (show_cells form name) (codes "sample") words (unlike (codes "sample") (codes "show") refl refl) s.spelled)
+followed words (show_cells how name, s) = absurd (other_command (show_cells how name) (codes "sample") words (unlike (codes "sample") (codes "show") refl refl) s.spelled)
 followed words (sample number, s) = record { number = number; is = refl; few = s.command; words_are = same_tail (sample_spelled number (codes "sample" ∷ words) s.spelled) }
 
 pub none_few : IsSampleNumber 0

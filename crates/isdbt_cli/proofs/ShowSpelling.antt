@@ -1,19 +1,22 @@
 -- The words of both commands show: what may follow the words that were read.
-use Rattle.std.proofs.Common.{◌≡◌, ◌≢◌, ℕ, Bool, true, false, List, [], ◌∷◌, ◌++◌, refl, sym, ap, ◌∙◌, subst}
+use Rattle.std.proofs.Common.{◌≡◌, ◌≢◌, ℕ, Bool, true, false, List, [], ◌∷◌, ◌++◌, refl, sym, ap, ◌∙◌, subst, append_assoc}
 use Rattle.std.specs.Prelude.{codes, MatchResult, Result, Ok, Err}
 use Rattle.isdbt_base.specs.declared.kinds.Mode.{Mode}
 use Rattle.isdbt_base.specs.declared.kinds.Mode.TheVariants.{M1}
 use Rattle.isdbt_base.specs.declared.kinds.Guard.{Guard}
 use Rattle.isdbt_base.specs.declared.kinds.Guard.TheVariants.{G4}
 use Rattle.isdbt_base.specs.declared.stream.Form.{Form}
+use Rattle.isdbt_base.specs.declared.stream.Reading.{Reading}
 use Rattle.isdbt_cli.specs.declared.command.Command.{Command as Parsed}
-use Rattle.isdbt_cli.specs.CommandLines.{form_words, told_words, IsName, Command, remux, code, receive, show_bts, show_cells, sample, SpellCommand, Spells}
+use Rattle.isdbt_cli.specs.CommandLines.{form_words, told_words, fix_words, IsName, Command, remux, code, receive, show_bts, show_cells, sample, SpellCommand, Spells}
 use Rattle.setting_words.specs.SettingWords.{Word, mode_word, guard_word}
-use Rattle.isdbt_cli.specs.Parsing.{Unread, Reads, BeginsWith, IsAny, IsStuck, Follows, FollowsBoth, command_of}
+use Rattle.isdbt_cli.specs.Parsing.{Unread, Reads, BeginsWith, IsAny, IsStuck, Follows, FollowsBoth, command_of, SomeOf}
 use Rattle.isdbt_cli.proofs.Stuck.{missing, wrong, reads_none, stuck_behind, stuck_word, stuck_end}
 use Rattle.isdbt_cli.proofs.Transmissions.{some_name, same_head, same_tail}
 use Rattle.isdbt_cli.proofs.CommandWords.{input_words, bts_words, cells_words, spell_bts, bts_spelled, spell_cells, cells_spelled, unlike, other_command, bts_or_cells}
+use Rattle.isdbt_cli.proofs.ToldWords.{told_only, only_told}
 use Rattle.isdbt_cli.proofs.CellsSpelling.{IsCells, CellsLines}
+use Rattle.isdbt_cli.proofs.ReceiveSpelling.{fixing}
 
 -- ---- what is shown
 
@@ -31,10 +34,10 @@ pub record IsShown (words : List Word) : Type 0 where
 shown : (words : List Word) → Follows (codes "show") words → IsShown words
 shown words (remux p a b c, s) = absurd (other_command (remux p a b c) (codes "show") words (unlike (codes "show") (codes "remux") refl refl) s.spelled)
 shown words (code p how name, s) = absurd (other_command (code p how name) (codes "show") words (unlike (codes "show") (codes "code") refl refl) s.spelled)
-shown words (receive form partial name, s) = absurd (other_command (receive form partial name) (codes "show") words (unlike (codes "show") (codes "receive") refl refl) s.spelled)
+shown words (receive how partial name, s) = absurd (other_command (receive how partial name) (codes "show") words (unlike (codes "show") (codes "receive") refl refl) s.spelled)
 shown words (sample number, s) = absurd (other_command (sample number) (codes "show") words (unlike (codes "show") (codes "sample") refl refl) s.spelled)
 shown words (show_bts mode guard name, s) = record { cells = false; rest = bts_words mode guard name; words_are = same_tail (bts_spelled mode guard name (codes "show" ∷ words) s.spelled) }
-shown words (show_cells form name, s) = record { cells = true; rest = cells_words form name; words_are = same_tail (cells_spelled form name (codes "show" ∷ words) s.spelled) }
+shown words (show_cells how name, s) = record { cells = true; rest = cells_words how name; words_are = same_tail (cells_spelled how name (codes "show" ∷ words) s.spelled) }
 
 shown_begins : (words : List Word) → Follows (codes "show") words → BeginsWith IsAny (λ c. shown_word c ∷ []) words
 shown_begins words f = (let s = shown words f in (s.cells, tt, s.rest, s.words_are))
@@ -89,9 +92,9 @@ bts_follows mode guard name some = (show_bts mode guard name, record { command =
 pub bts_followed : (words : List Word) (f : BtsLine words) → IsBts words f.0
 bts_followed words (remux p a b c, s) = absurd (other_command (remux p a b c) (codes "show") (codes "bts" ∷ words) (unlike (codes "show") (codes "remux") refl refl) s.spelled)
 bts_followed words (code p how name, s) = absurd (other_command (code p how name) (codes "show") (codes "bts" ∷ words) (unlike (codes "show") (codes "code") refl refl) s.spelled)
-bts_followed words (receive form partial name, s) = absurd (other_command (receive form partial name) (codes "show") (codes "bts" ∷ words) (unlike (codes "show") (codes "receive") refl refl) s.spelled)
+bts_followed words (receive how partial name, s) = absurd (other_command (receive how partial name) (codes "show") (codes "bts" ∷ words) (unlike (codes "show") (codes "receive") refl refl) s.spelled)
 bts_followed words (sample number, s) = absurd (other_command (sample number) (codes "show") (codes "bts" ∷ words) (unlike (codes "show") (codes "sample") refl refl) s.spelled)
-bts_followed words (show_cells form name, s) = absurd (bts_or_cells (same_head (same_tail (cells_spelled form name (codes "show" ∷ codes "bts" ∷ words) s.spelled))))
+bts_followed words (show_cells how name, s) = absurd (bts_or_cells (same_head (same_tail (cells_spelled how name (codes "show" ∷ codes "bts" ∷ words) s.spelled))))
 bts_followed words (show_bts mode guard name, s) = record {
   mode = mode;
   guard = guard;
@@ -128,48 +131,55 @@ spells_bts mode guard name words some e = record { command = some; spelled = sub
 
 -- ---- frames of cells
 
--- nothing stands behind the name
-abbrev pub Nothing : List Word → Type 0
-Nothing words = words ≡ []
+-- whether words are corrected stands behind the input
+abbrev pub Fixing : List Word → Type 0
+Fixing = SomeOf fixing
 
-cells_follow : (form : Form) (name : Word) (tail : List Word) → IsName name → Nothing tail → FollowsBoth (codes "show") (codes "cells") (form_words form ++ ((codes "IN=" ++ name) ∷ tail))
-cells_follow form name tail some none = (
-  show_cells form name,
-  record { command = some; spelled = subst (λ (ws : List Word). SpellCommand (show_cells form name) (codes "show" ∷ codes "cells" ∷ (form_words form ++ ((codes "IN=" ++ name) ∷ ws)))) (sym none) (spell_cells form name) },
-)
+cells_follow : (form : Form) (name : Word) (tail : List Word) → IsName name → Fixing tail → FollowsBoth (codes "show") (codes "cells") (form_words form ++ ((codes "IN=" ++ name) ∷ tail))
+cells_follow form name tail some t =
+    let how : Reading = record { form = form; fix = t.0 } in (
+      show_cells how name,
+      record { command = some; spelled = subst (λ (ws : List Word). SpellCommand (show_cells how name) (codes "show" ∷ codes "cells" ∷ (form_words form ++ ((codes "IN=" ++ name) ∷ ws)))) (sym (told_only (codes "fix") false tail t)) (spell_cells how name) },
+    )
 
--- a version and a name, whose words these are
+-- how a stream is read and a name, whose words these are
 pub record IsShownCells (words : List Word) (c : Command) : Type 0 where
-  pub form : Form
+  pub how : Reading
   pub name : Word
-  pub is : c ≡ show_cells form name
+  pub is : c ≡ show_cells how name
   pub some : IsName name
-  pub words_are : words ≡ cells_words form name
+  pub words_are : words ≡ cells_words how name
 
 pub cells_shown : (words : List Word) (f : FollowsBoth (codes "show") (codes "cells") words) → IsShownCells words f.0
 cells_shown words (remux p a b c, s) = absurd (other_command (remux p a b c) (codes "show") (codes "cells" ∷ words) (unlike (codes "show") (codes "remux") refl refl) s.spelled)
 cells_shown words (code p how name, s) = absurd (other_command (code p how name) (codes "show") (codes "cells" ∷ words) (unlike (codes "show") (codes "code") refl refl) s.spelled)
-cells_shown words (receive form partial name, s) = absurd (other_command (receive form partial name) (codes "show") (codes "cells" ∷ words) (unlike (codes "show") (codes "receive") refl refl) s.spelled)
+cells_shown words (receive how partial name, s) = absurd (other_command (receive how partial name) (codes "show") (codes "cells" ∷ words) (unlike (codes "show") (codes "receive") refl refl) s.spelled)
 cells_shown words (sample number, s) = absurd (other_command (sample number) (codes "show") (codes "cells" ∷ words) (unlike (codes "show") (codes "sample") refl refl) s.spelled)
 cells_shown words (show_bts mode guard name, s) = absurd (bts_or_cells (sym (same_head (same_tail (bts_spelled mode guard name (codes "show" ∷ codes "cells" ∷ words) s.spelled)))))
-cells_shown words (show_cells form name, s) = record {
-  form = form;
+cells_shown words (show_cells how name, s) = record {
+  how = how;
   name = name;
   is = refl;
   some = s.command;
-  words_are = same_tail (same_tail (cells_spelled form name (codes "show" ∷ codes "cells" ∷ words) s.spelled));
+  words_are = same_tail (same_tail (cells_spelled how name (codes "show" ∷ codes "cells" ∷ words) s.spelled));
 }
 
-cells_followed : (words : List Word) → FollowsBoth (codes "show") (codes "cells") words → IsCells Nothing words
-cells_followed words f = (let r = cells_shown words f in record { form = r.form; name = r.name; tail = []; some = r.some; tail_is = refl; words_are = r.words_are })
+cells_followed : (words : List Word) → FollowsBoth (codes "show") (codes "cells") words → IsCells Fixing words
+cells_followed words f = (let r = cells_shown words f in record {
+  form = r.how.form;
+  name = r.name;
+  tail = fix_words r.how.fix;
+  some = r.some;
+  tail_is = only_told (codes "fix") false r.how.fix (fix_words r.how.fix) (λ e. refl) refl;
+  words_are = r.words_are;
+})
 
 -- the lines of a showing of cells
-pub shown_lines : CellsLines (FollowsBoth (codes "show") (codes "cells")) Nothing
-shown_lines = record { up = cells_follow; down = cells_followed; last = []; last_is = refl }
+pub shown_lines : CellsLines (FollowsBoth (codes "show") (codes "cells")) Fixing
+shown_lines = record { up = cells_follow; down = cells_followed; last = fix_words false; last_is = only_told (codes "fix") false false (fix_words false) (λ e. refl) refl }
 
--- a word is left
-pub left_behind : (u : Unread) (place : ℕ) → place ≡ u.place → u.words ≢ [] → IsStuck Nothing u place
-left_behind u place at left = stuck_end Nothing [] u u place (reads_none u) at left refl (λ tail e. e)
-
-pub spells_cells : (form : Form) (name : Word) (words : List Word) → IsName name → words ≡ cells_words form name → Spells (codes "show" ∷ codes "cells" ∷ words) (show_cells form name)
-spells_cells form name words some e = record { command = some; spelled = subst (λ (ws : List Word). SpellCommand (show_cells form name) (codes "show" ∷ codes "cells" ∷ ws)) (sym e) (spell_cells form name) }
+pub spells_cells : (how : Reading) (name : Word) (words : List Word) → IsName name → words ≡ (form_words how.form ++ input_words name) ++ fix_words how.fix → Spells (codes "show" ∷ codes "cells" ∷ words) (show_cells how name)
+spells_cells how name words some e = record {
+  command = some;
+  spelled = subst (λ (ws : List Word). SpellCommand (show_cells how name) (codes "show" ∷ codes "cells" ∷ ws)) (sym (e ∙ append_assoc (form_words how.form) (input_words name) (fix_words how.fix))) (spell_cells how name);
+}

@@ -125,9 +125,9 @@ behind_plan read u v place r s = stuck_behind (Line read) (Follows (codes "remux
 no_name : (w : Word) (c : Command) → w ≢ codes "remux" → w ≢ codes "code" → w ≢ codes "receive" → w ≢ codes "show" → w ≢ codes "sample" → w ≢ name_of c
 no_name w (remux p a b c) not_remux not_code not_receive not_show not_sample = not_remux
 no_name w (code p how name) not_remux not_code not_receive not_show not_sample = not_code
-no_name w (receive form partial name) not_remux not_code not_receive not_show not_sample = not_receive
+no_name w (receive how partial name) not_remux not_code not_receive not_show not_sample = not_receive
 no_name w (show_bts mode guard name) not_remux not_code not_receive not_show not_sample = not_show
-no_name w (show_cells form name) not_remux not_code not_receive not_show not_sample = not_show
+no_name w (show_cells how name) not_remux not_code not_receive not_show not_sample = not_show
 no_name w (sample number) not_remux not_code not_receive not_show not_sample = not_sample
 
 pub spells : (p : Schedule) (read : List Word) (a : Word) (b c : Option Word) (words : List Word) → SpellsPlan p read → IsName a

@@ -4,6 +4,7 @@ use Rattle.isdbt_base.specs.declared.kinds.Mode.{Mode}
 use Rattle.isdbt_base.specs.declared.kinds.Guard.{Guard}
 use Rattle.isdbt_base.specs.Plans.{Transmission, Switch, Schedule, IsPlan, KeepsMode}
 use Rattle.isdbt_base.specs.declared.stream.Writing.{Writing}
+use Rattle.isdbt_base.specs.declared.stream.Reading.{Reading}
 use Rattle.isdbt_base.specs.declared.stream.Form.{Form}
 use Rattle.isdbt_base.specs.declared.stream.Form.TheVariants.{V1, V2}
 use Rattle.setting_words.specs.SettingWords.{Word, mode_word, guard_word, setting_word}
@@ -59,37 +60,41 @@ abbrev pub IsNameIfGiven : Option Word → Type 0
 IsNameIfGiven None = Unit {0}
 IsNameIfGiven (Some name) = IsName name
 
--- ---- the version of the stream of cells
+-- ---- words that may stand behind the input
 
--- a word that stands last where it is told
-abbrev pub told_last : Word → Bool → List Word
-told_last word true = word ∷ []
-told_last word false = []
+-- a word, where it is told
+abbrev pub told_word : Word → Bool → List Word
+told_word word true = word ∷ []
+told_word word false = []
 
--- version 2 is told behind the input, and version 1 is not
+-- version 2 of the stream that is written: version 1 is not told
 abbrev pub version_words : Bool → List Word
-version_words = told_last (codes "v2")
+version_words = told_word (codes "v2")
+
+-- reception is partial
+abbrev pub part_words : Bool → List Word
+part_words = told_word (codes "partial")
+
+-- TMCC words are corrected
+abbrev pub fix_words : Bool → List Word
+fix_words = told_word (codes "fix")
+
+-- ---- the version of a stream of cells
 
 -- a stream that is read is of version 1 where its mode and guard interval are told, and of version 2 where they are not
 abbrev pub form_words : Form → List Word
 form_words (V1 mode guard) = told_words true mode guard
 form_words V2 = []
 
--- ---- partial reception
-
--- it is told behind the input
-abbrev pub part_words : Bool → List Word
-part_words = told_last (codes "partial")
-
 -- ---- commands
 
--- remux: a plan, and the names of the inputs of layers A, B and C; code: a plan, how the stream is written, and the name of its input; receive: the version of the stream, in version 1 with a mode and a guard interval, whether reception is partial, and the name of its input; show bts: a mode, a guard interval, and the name of its input; show cells: the version of the stream, and the name of its input; sample: a number
+-- remux: a plan, and the names of the inputs of layers A, B and C; code: a plan, how the stream is written, and the name of its input; receive: how the stream is read, in version 1 with a mode and a guard interval, whether reception is partial, and the name of its input; show bts: a mode, a guard interval, and the name of its input; show cells: how the stream is read, and the name of its input; sample: a number
 pub data Command : Type 0 where
   remux : Schedule → Word → Option Word → Option Word → Command
   code : Schedule → Writing → Word → Command
-  receive : Form → Bool → Word → Command
+  receive : Reading → Bool → Word → Command
   show_bts : Mode → Guard → Word → Command
-  show_cells : Form → Word → Command
+  show_cells : Reading → Word → Command
   sample : ℕ → Command
 
 -- these words spell a command
@@ -98,9 +103,9 @@ SpellCommand (remux p a b c) words =
     (plan : List Word) × SpellPlan p plan × (words ≡ codes "remux" ∷ (plan ++ (input_word (codes "A") a ∷ (other_input_words (codes "B") b ++ other_input_words (codes "C") c))))
 SpellCommand (code p how name) words =
     (plan : List Word) × SpellPlan p plan × (words ≡ codes "code" ∷ (plan ++ (input_word (codes "IN") name ∷ version_words how.v2)))
-SpellCommand (receive form partial name) words = words ≡ codes "receive" ∷ (form_words form ++ (input_word (codes "IN") name ∷ part_words partial))
+SpellCommand (receive how partial name) words = words ≡ codes "receive" ∷ (form_words how.form ++ (input_word (codes "IN") name ∷ (part_words partial ++ fix_words how.fix)))
 SpellCommand (show_bts mode guard name) words = words ≡ codes "show" ∷ codes "bts" ∷ (told_words true mode guard ++ (input_word (codes "IN") name ∷ []))
-SpellCommand (show_cells form name) words = words ≡ codes "show" ∷ codes "cells" ∷ (form_words form ++ (input_word (codes "IN") name ∷ []))
+SpellCommand (show_cells how name) words = words ≡ codes "show" ∷ codes "cells" ∷ (form_words how.form ++ (input_word (codes "IN") name ∷ fix_words how.fix))
 SpellCommand (sample number) words = words ≡ codes "sample" ∷ decimal number ∷ []
 
 -- the plan is accepted, and exactly its layers' inputs are named
@@ -125,9 +130,9 @@ IsSampleNumber number = number ≤ 65535
 abbrev pub IsCommand : Command → Type 0
 IsCommand (remux p a b c) = IsRemux p a b c
 IsCommand (code p how name) = IsCode p how name
-IsCommand (receive form partial name) = IsName name
+IsCommand (receive how partial name) = IsName name
 IsCommand (show_bts mode guard name) = IsName name
-IsCommand (show_cells form name) = IsName name
+IsCommand (show_cells how name) = IsName name
 IsCommand (sample number) = IsSampleNumber number
 
 -- the words are some of an accepted command

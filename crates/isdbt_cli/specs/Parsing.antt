@@ -10,7 +10,7 @@ use Rattle.isdbt_base.specs.Epochs.{last_start, last_sent}
 use Rattle.isdbt_base.specs.Switching.{with_switch}
 use Rattle.isdbt_cli.specs.declared.command.Command.{Command as Parsed}
 use Rattle.isdbt_cli.specs.declared.command.Command.TheVariants.{Remux, Code, Receive, ShowBts, ShowCells, Sample}
-use Rattle.isdbt_cli.specs.CommandLines.{frame_word, told_words, IsIn, SpellPlan, told_last, Command, remux, code, receive, show_bts, show_cells, sample, Spells}
+use Rattle.isdbt_cli.specs.CommandLines.{frame_word, told_words, IsIn, SpellPlan, told_word, Command, remux, code, receive, show_bts, show_cells, sample, Spells}
 use Rattle.setting_words.specs.SettingWords.{Word, mode_word, guard_word, setting_word}
 
 -- words still to be read, and the place of the first of them
@@ -52,9 +52,9 @@ FollowsBoth first second words = Follows first (second ∷ words)
 abbrev pub command_of : Parsed → Command
 command_of (Remux plan a b c) = remux plan a.now (option_map (λ x. x.now) b) (option_map (λ x. x.now) c)
 command_of (Code plan how name) = code plan how name.now
-command_of (Receive form partial name) = receive form partial name.now
+command_of (Receive how partial name) = receive how partial name.now
 command_of (ShowBts mode guard name) = show_bts mode guard name.now
-command_of (ShowCells form name) = show_cells form name.now
+command_of (ShowCells how name) = show_cells how name.now
 command_of (Sample number) = sample number
 
 -- a named input, if it is given: the seat's text and the name
@@ -160,8 +160,14 @@ abbrev pub planned : Bool → Word
 planned false = codes "remux"
 planned true = codes "code"
 
--- ---- a word that stands last
+-- ---- words that may stand
 
--- these words, the last of a line, tell a word or don't: it must be told where it is wanted
-abbrev pub SpellLast : Word → Bool → List Word → Type 0
-SpellLast word wanted words = (told : Bool) × (told ≡ false → wanted ≡ false) × (words ≡ told_last word told)
+-- a word was read where it was next, and else nothing
+abbrev pub ReadsIf : Word → Bool → Unread → Unread → Type 0
+ReadsIf word true old new = Reads (word ∷ []) old new
+ReadsIf word false old new = (new ≡ old) × (StartsWith word old.words → ⊥)
+
+-- the last words of a line are some of these in this order: each may stand, and must where it is wanted
+abbrev pub SomeOf : List (Word × Bool) → List Word → Type 0
+SomeOf [] words = words ≡ []
+SomeOf (first ∷ more) words = (told : Bool) × (rest : List Word) × (told ≡ false → first.1 ≡ false) × SomeOf more rest × (words ≡ told_word first.0 told ++ rest)

@@ -50,9 +50,9 @@ no_names seat = None
 abbrev pub names_of : Command → Names
 names_of (remux p a b c) = layer_names a b c
 names_of (code p how name) = lone_name name
-names_of (receive form partial name) = lone_name name
+names_of (receive how partial name) = lone_name name
 names_of (show_bts mode guard name) = lone_name name
-names_of (show_cells form name) = lone_name name
+names_of (show_cells how name) = lone_name name
 names_of (sample number) = no_names
 
 -- the named inputs of the layers hold these bytes, and a layer without a name has none
@@ -109,12 +109,12 @@ AnswerOf (remux p a b c) holds before after left outcome = (input : Layer → Li
     → EndsSo run_fault_of (λ seat. after ≡ before) (RemuxAnswer p input frame_limit before after left) outcome
 AnswerOf (code p how name) holds before after left outcome = (input : List ℕ) → holds name ≡ Some input
     → EndsSo run_fault_of_code (λ seat. after ≡ before) (LoneAnswer code_kind (code_command how p input frame_limit) before after (left In)) outcome
-AnswerOf (receive form partial name) holds before after left outcome = (stream : List ℕ) → holds name ≡ Some stream
-    → EndsSo run_fault_of_receive (λ seat. after ≡ before) (LoneAnswer receive_kind (receive_command (view_of form stream) (aim_of partial) stream frame_limit) before after (left In)) outcome
+AnswerOf (receive how partial name) holds before after left outcome = (stream : List ℕ) → holds name ≡ Some stream
+    → EndsSo run_fault_of_receive (λ seat. after ≡ before) (LoneAnswer receive_kind (receive_command (view_of how stream) (aim_of partial) stream frame_limit) before after (left In)) outcome
 AnswerOf (show_bts mode guard name) holds before after left outcome = (input : List ℕ) → holds name ≡ Some input
     → EndsSo run_fault_of_code (λ seat. after ≡ before) (LoneAnswer code_kind (show_command mode guard input frame_limit) before after (left In)) outcome
-AnswerOf (show_cells form name) holds before after left outcome = (stream : List ℕ) → holds name ≡ Some stream
-    → EndsSo run_fault_of_receive (λ seat. after ≡ before) (LoneAnswer receive_kind (receive_command (view_of form stream) Lines stream frame_limit) before after (left In)) outcome
+AnswerOf (show_cells how name) holds before after left outcome = (stream : List ℕ) → holds name ≡ Some stream
+    → EndsSo run_fault_of_receive (λ seat. after ≡ before) (LoneAnswer receive_kind (receive_command (view_of how stream) Lines stream frame_limit) before after (left In)) outcome
 AnswerOf (sample number) holds before after left outcome = EndsSo run_fault_of_sample (λ seat. after ≡ before) (SampleAnswer number before after) outcome
 
 -- ---- causes
@@ -130,9 +130,9 @@ pub record OpenFailed (name : Names) (shelf shelf' : Cause → ℕ) (sink sink' 
 abbrev pub CauseOf : Command → (Cause → ℕ) → (Cause → ℕ) → ℕ → ℕ → Outcome → Type 0
 CauseOf (remux p a b c) shelf shelf' sink sink' outcome = EndsSo run_fault_of (OpenFailed (layer_names a b c) shelf shelf' sink sink') (RemuxCause p shelf shelf' sink sink') outcome
 CauseOf (code p how name) shelf shelf' sink sink' outcome = EndsSo run_fault_of_code (OpenFailed (lone_name name) shelf shelf' sink sink') (LoneCause code_kind shelf shelf' sink sink') outcome
-CauseOf (receive form partial name) shelf shelf' sink sink' outcome = EndsSo run_fault_of_receive (OpenFailed (lone_name name) shelf shelf' sink sink') (LoneCause receive_kind shelf shelf' sink sink') outcome
+CauseOf (receive how partial name) shelf shelf' sink sink' outcome = EndsSo run_fault_of_receive (OpenFailed (lone_name name) shelf shelf' sink sink') (LoneCause receive_kind shelf shelf' sink sink') outcome
 CauseOf (show_bts mode guard name) shelf shelf' sink sink' outcome = EndsSo run_fault_of_code (OpenFailed (lone_name name) shelf shelf' sink sink') (LoneCause code_kind shelf shelf' sink sink') outcome
-CauseOf (show_cells form name) shelf shelf' sink sink' outcome = EndsSo run_fault_of_receive (OpenFailed (lone_name name) shelf shelf' sink sink') (LoneCause receive_kind shelf shelf' sink sink') outcome
+CauseOf (show_cells how name) shelf shelf' sink sink' outcome = EndsSo run_fault_of_receive (OpenFailed (lone_name name) shelf shelf' sink sink') (LoneCause receive_kind shelf shelf' sink sink') outcome
 CauseOf (sample number) shelf shelf' sink sink' outcome = EndsSo run_fault_of_sample (OpenFailed no_names shelf shelf' sink sink') (AnswerCause sample_kind (λ seat. ⊥) shelf shelf' sink sink') outcome
 
 -- the words have a fault, and nothing else happened
@@ -159,9 +159,9 @@ pub record NothingRose (name : Names) (shelf shelf' : Cause → ℕ) (sink sink'
 abbrev pub RefusesNone : Command → (Word → Option (List ℕ)) → Type 0
 RefusesNone (remux p a b c) holds = (input : Layer → List ℕ) × Hold holds (layer_names a b c) input × ((f : ℕ) → refusal p input frame_limit f ≡ None)
 RefusesNone (code p how name) holds = (input : List ℕ) × (holds name ≡ Some input) × ((f : ℕ) → code_refusal p input frame_limit f ≡ None)
-RefusesNone (receive form partial name) holds = (stream : List ℕ) × (holds name ≡ Some stream) × ((f : ℕ) → receive_refusal (view_of form stream) (aim_of partial) frame_limit f ≡ None)
+RefusesNone (receive how partial name) holds = (stream : List ℕ) × (holds name ≡ Some stream) × ((f : ℕ) → receive_refusal (view_of how stream) (aim_of partial) frame_limit f ≡ None)
 RefusesNone (show_bts mode guard name) holds = (input : List ℕ) × (holds name ≡ Some input) × ((f : ℕ) → (show_command mode guard input frame_limit).frames.refusal f ≡ None)
-RefusesNone (show_cells form name) holds = (stream : List ℕ) × (holds name ≡ Some stream) × ((f : ℕ) → receive_refusal (view_of form stream) Lines frame_limit f ≡ None)
+RefusesNone (show_cells how name) holds = (stream : List ℕ) × (holds name ≡ Some stream) × ((f : ℕ) → receive_refusal (view_of how stream) Lines frame_limit f ≡ None)
 RefusesNone (sample number) holds = Unit {0}
 
 -- the answers where no frame is refused and nothing of the outside failed

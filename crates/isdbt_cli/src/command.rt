@@ -1,6 +1,6 @@
 //! What a command line asks for.
 
-use isdbt_base::{Form, Guard, Mode, Plan, Writing};
+use isdbt_base::{Guard, Mode, Plan, Reading, Writing};
 
 /// A command, as its words say it.
 #[derive(Debug, Drop)]
@@ -18,9 +18,9 @@ pub enum Command<'a> {
         how: Writing,
         name: &'a str,
     },
-    /// Receives the cells of the input of this name, a stream of this version, in full or for partial reception.
+    /// Receives the cells of the input of this name, a stream that is read so, in full or for partial reception.
     Receive {
-        form: Form,
+        how: Reading,
         partial: bool,
         name: &'a str,
     },
@@ -30,9 +30,9 @@ pub enum Command<'a> {
         guard: Guard,
         name: &'a str,
     },
-    /// Shows the frames of cells of the input of this name, a stream of this version.
+    /// Shows the frames of cells of the input of this name, a stream that is read so.
     ShowCells {
-        form: Form,
+        how: Reading,
         name: &'a str,
     },
     /// Runs the chain over the made input of this number.

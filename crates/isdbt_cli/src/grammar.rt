@@ -3,17 +3,17 @@
 //! Where the words do not follow a rule, it answers the place of the fault: the least place such that nothing that
 //! follows the rule begins with the words up to it.
 
-ghost use Rattle.std.specs.Prelude.{◌≡◌, ℕ, ◌<◌, ◌++◌, ◌∷◌, [], length, Bool, false, None, is_some, IfSome, IfOk, IfErr, MatchResult, codes, map, string_bytes, option_map, decimal};
+ghost use Rattle.std.specs.Prelude.{◌≡◌, ℕ, ◌<◌, ◌++◌, ◌∷◌, [], length, List, Bool, false, None, is_some, IfSome, IfOk, IfErr, MatchResult, codes, map, string_bytes, option_map, decimal};
 ghost use Rattle.isdbt_base.specs.Parameters.{Parameters, IsAccepted};
 ghost use Rattle.isdbt_base.specs.declared.kinds.Mode.{Mode as SomeMode};
-ghost use Rattle.isdbt_cli.specs.CommandLines.{frame_word, transmission_words, told_last, IsName, IsNameIfGiven, IsSampleNumber, Spells, IsFaultAt};
-ghost use Rattle.setting_words.specs.SettingWords.{mode_word, guard_word, setting_word};
-ghost use Rattle.isdbt_cli.specs.Parsing.{Reads, BeginsWith, IsAny, IsStuck, Follows, FollowsBoth, command_of, named, StartsWith, ReadsTold, IsStuckAtGuard, told_by, IsLater, ReadsMode, IsChange, change_words, ReadsSwitch, IsStuckInSwitch, ReadsPlan, HasNoFrame, planned, SpellLast};
+ghost use Rattle.isdbt_cli.specs.CommandLines.{frame_word, transmission_words, IsName, IsNameIfGiven, IsSampleNumber, Spells, IsFaultAt};
+ghost use Rattle.setting_words.specs.SettingWords.{Word, mode_word, guard_word, setting_word};
+ghost use Rattle.isdbt_cli.specs.Parsing.{Reads, BeginsWith, IsAny, IsStuck, Follows, FollowsBoth, command_of, named, StartsWith, ReadsTold, IsStuckAtGuard, told_by, IsLater, ReadsMode, IsChange, change_words, ReadsSwitch, IsStuckInSwitch, ReadsPlan, HasNoFrame, planned, ReadsIf, SomeOf};
 
 use crate::command::Command;
 use crate::cursor::Cursor;
 use crate::fields::{LAST_FRAME, frame_of, sample_number_of};
-use isdbt_base::{At, Form, Guard, Layer, Mode, Plan, Setting, Writing};
+use isdbt_base::{At, Form, Guard, Layer, Mode, Plan, Reading, Setting, Writing};
 use setting_words::{guard_of, mode_of, setting_of};
 
 /// The most switches of a plan.
@@ -56,42 +56,53 @@ fn code<'a>(words: &mut Cursor<'a>) -> Result<Command<'a>, u64>
 {
     let plan = plan(words)?;
     let name = name(words, "IN=")?;
-    let v2 = last_word(words, "v2", plan.changes_mode())?;
+    let v2 = wanted_word(words, "v2", plan.changes_mode())?;
+    words.end()?;
     let how = Writing { v2 };
     Ok(Command::Code { plan, how, name })
 }
 
-/// Whether a word stands last, which may be left out unless it is wanted.
-fn last_word(words: &mut Cursor<'_>, last: &str, wanted: bool) -> Result<bool, u64>
-    ensures wanted { IfOk result (λ told. told ≡ false → wanted ≡ false) }
-    ensures ok { IfOk result (λ told. words.old.words ≡ told_last last.now told) }
-    ensures err { IfErr result (λ place. IsStuck (SpellLast last.now wanted) words.old place) }
+/// Takes a word if it is next. Answers whether it is.
+fn told_word(words: &mut Cursor<'_>, told: &str) -> bool
+    ensures { ReadsIf told.now result words.old words.new }
 {
-    let place = words.place();
     let Some(word) = words.peek() else {
-        return if wanted { Err(place) } else { Ok(false) };
+        return false;
     };
-    if word != last {
-        return Err(place);
+    if word != told {
+        return false;
     }
     words.skip();
-    words.end()?;
-    Ok(true)
+    true
 }
 
-/// The words behind `receive`: the version of the stream, the name of its input, and whether reception is partial.
+/// The same of a word that may be left out unless it is wanted.
+fn wanted_word(words: &mut Cursor<'_>, told: &str, wanted: bool) -> Result<bool, u64>
+    ensures wanted { IfOk result (λ is_told. is_told ≡ false → wanted ≡ false) }
+    ensures ok { IfOk result (λ is_told. ReadsIf told.now is_told words.old words.new) }
+    ensures err { (more : List (Word × Bool)) → IfErr result (λ place. IsStuck (SomeOf ((told.now, wanted) ∷ more)) words.old place) }
+{
+    let place = words.place();
+    let is_told = told_word(words, told);
+    if wanted && !is_told {
+        return Err(place);
+    }
+    Ok(is_told)
+}
+
+/// The words behind `receive`: the version of the stream, the name of its input, whether reception is partial, and whether
+/// words are corrected.
 fn receive<'a>(words: &mut Cursor<'a>) -> Result<Command<'a>, u64>
     ensures { MatchResult result (λ c. Spells (codes "receive" ∷ words.old.words) (command_of c))
         (λ place. IsStuck (Follows (codes "receive")) words.old place) }
 {
     let form = form(words)?;
     let name = name(words, "IN=")?;
-    let partial = last_word(words, "partial", false)?;
-    Ok(Command::Receive {
-        form,
-        partial,
-        name,
-    })
+    let partial = told_word(words, "partial");
+    let fix = told_word(words, "fix");
+    words.end()?;
+    let how = Reading { form, fix };
+    Ok(Command::Receive { how, partial, name })
 }
 
 /// The words behind `show`: what is shown, and the words behind it.
@@ -119,15 +130,17 @@ fn show_bts<'a>(words: &mut Cursor<'a>) -> Result<Command<'a>, u64>
     Ok(Command::ShowBts { mode, guard, name })
 }
 
-/// The words behind `show cells`: the version of the stream, and the name of its input.
+/// The words behind `show cells`: the version of the stream, the name of its input, and whether words are corrected.
 fn show_cells<'a>(words: &mut Cursor<'a>) -> Result<Command<'a>, u64>
     ensures { MatchResult result (λ c. Spells (codes "show" ∷ codes "cells" ∷ words.old.words) (command_of c))
         (λ place. IsStuck (FollowsBoth (codes "show") (codes "cells")) words.old place) }
 {
     let form = form(words)?;
     let name = name(words, "IN=")?;
+    let fix = told_word(words, "fix");
     words.end()?;
-    Ok(Command::ShowCells { form, name })
+    let how = Reading { form, fix };
+    Ok(Command::ShowCells { how, name })
 }
 
 /// The words behind `sample`: its number.

@@ -3,11 +3,12 @@
 //! - `remux MODE GUARD PLAN A=NAME [B=NAME [C=NAME]]` makes broadcast packets of the layers' transport packets.
 //! - `code MODE GUARD PLAN IN=NAME [v2]` makes cells of broadcast packets. With `v2` each frame has a head, which says its
 //!   mode and guard interval.
-//! - `receive [MODE GUARD] IN=NAME [partial]` makes broadcast packets of cells, each layer's packets put off by its delay. The
+//! - `receive [MODE GUARD] IN=NAME [partial] [fix]` makes broadcast packets of cells, each layer's packets put off by its delay. The
 //!   setting it reads from the TMCC words of the frames. Without MODE and GUARD the frames have heads, and it reads both from
-//!   them. With `partial` it makes layer A's packets alone, of the cells of segment 0.
-//! - `show bts MODE GUARD IN=NAME` and `show cells [MODE GUARD] IN=NAME` write a line for each frame of broadcast packets, or
-//!   of cells.
+//!   them. With `partial` it makes layer A's packets alone, of the cells of segment 0. With `fix` it restores up to eight wrong
+//!   bits of each TMCC word.
+//! - `show bts MODE GUARD IN=NAME` and `show cells [MODE GUARD] IN=NAME [fix]` write a line for each frame of broadcast packets,
+//!   or of cells. With `fix` a line also says how many bits were restored.
 //! - `sample NUMBER` makes an input of its own, sends it through all three with some cells spoiled, and writes what came.
 //!
 //! A PLAN is `SETTING {@FRAME [MODE GUARD] SETTING}`: what frame 0 sends, and at most seven switches, each from a frame on. A
@@ -23,6 +24,8 @@ mod command;
 mod cursor;
 mod fault;
 mod fields;
+#[cfg(test)]
+mod fix_tests;
 mod grammar;
 mod inputs;
 #[cfg(test)]

@@ -4,7 +4,7 @@ ghost use Rattle.std.specs.Prelude.{◌≡◌, ℕ, ◌≤◌, Bool, List, ◌�
 ghost use Rattle.std.specs.declared.option.Option.{Option as Maybe};
 ghost use Rattle.isdbt_base.specs.declared.kinds.Layer.{Layer as Which};
 ghost use Rattle.isdbt_base.specs.Plans.{Schedule, IsPlan};
-ghost use Rattle.isdbt_base.specs.declared.stream.Form.{Form as SomeForm};
+ghost use Rattle.isdbt_base.specs.declared.stream.Reading.{Reading as SomeReading};
 ghost use Rattle.isdbt_base.specs.declared.stream.Writing.{Writing as SomeWriting};
 ghost use Rattle.isdbt_base.specs.Frames.{FramePackets};
 ghost use Rattle.isdbt_base.specs.Outcome.{product};
@@ -23,7 +23,7 @@ ghost use Rattle.seg_receiver.specs.Delivered.{CanCarry, ArePackets};
 ghost use Rattle.seg_receiver.specs.ReceiveAnswers.{receive_kind, receive_command};
 ghost use Rattle.sample.specs.SamplePlan.{sample_frames};
 ghost use Rattle.sample.specs.Answers.{sample_text, sample_kind, SampleAnswer};
-ghost use Rattle.isdbt_cli.specs.Chain.{written_stream, IsDoneWith, CanCarryFor, HasFlags, IsNearFor, delivered_for, IsReceivedAs, WroteNear, IsChain};
+ghost use Rattle.isdbt_cli.specs.Chain.{written_stream, IsDoneWith, CanCarryFor, HasFlags, IsNearFor, IsRestorableFor, delivered_for, IsReceivedAs, WroteNear, IsChain};
 ghost use Rattle.isdbt_cli.specs.CommandLines.{Command as SomeCommand, remux, code, receive, sample, IsRemux, IsCode, IsCommand, Spells, IsFaultAt};
 ghost use Rattle.setting_words.specs.SettingWords.{Word};
 ghost use Rattle.isdbt_cli.specs.Faults.{run_fault_of, run_fault_of_code, run_fault_of_receive, run_fault_of_sample};
@@ -39,7 +39,7 @@ use crate::lines::write_line;
 use crate::words::Words;
 use coder_core::{code, show_bts};
 use edge_io::{Failed, Seat, Shelf, Sink};
-use isdbt_base::{Form, Guard, Mode, Plan, Reading, Writing};
+use isdbt_base::{Guard, Mode, Plan, Reading, Writing};
 use remux_core::remux;
 use sample::sample;
 use seg_receiver::{Aim, ReceiveFault, aim_of, receive, receive_partial, show_cells};
@@ -117,7 +117,7 @@ fn read_cells<H: Shelf, K: Sink>(
 ) -> Result<u32, ReceiveFault>
     requires { H.is_open shelf.old seats.In ≡ true }
     ensures answer { (stream : List ℕ) → H.left shelf.old seats.In ≡ Some stream
-        → LoneAnswer receive_kind (receive_command (view_of how.form stream) aim stream frame_limit) (K.written out.old) (K.written out.new) (H.left shelf.new seats.In) result }
+        → LoneAnswer receive_kind (receive_command (view_of how stream) aim stream frame_limit) (K.written out.old) (K.written out.new) (H.left shelf.new seats.In) result }
     ensures still_open { H.is_open shelf.new ≡ H.is_open shelf.old }
     ensures cause { LoneCause receive_kind (H.faults shelf.old) (H.faults shelf.new) (K.faults out.old) (K.faults out.new) result }
     ensures room { K.room out.new ≡ K.room out.old }
@@ -129,10 +129,10 @@ fn read_cells<H: Shelf, K: Sink>(
     }
 }
 
-/// Writes what is asked of the cells of the input of this name, a stream of this version.
+/// Writes what is asked of the cells of the input of this name, a stream that is read so.
 fn run_cells<H: Shelf, K: Sink>(
     alloc: Global,
-    form: Form,
+    how: Reading,
     aim: Aim,
     name: &str,
     shelf: &mut H,
@@ -140,7 +140,7 @@ fn run_cells<H: Shelf, K: Sink>(
 ) -> Outcome
     requires { (seat : Place) → H.is_open shelf.old seat ≡ false }
     ensures answer { (stream : List ℕ) → H.holds shelf.old name.now ≡ Some stream
-        → EndsSo run_fault_of_receive (λ seat. K.written out.new ≡ K.written out.old) (LoneAnswer receive_kind (receive_command (view_of form stream) aim stream frame_limit) (K.written out.old) (K.written out.new) (H.left shelf.new seats.In)) result }
+        → EndsSo run_fault_of_receive (λ seat. K.written out.new ≡ K.written out.old) (LoneAnswer receive_kind (receive_command (view_of how stream) aim stream frame_limit) (K.written out.old) (K.written out.new) (H.left shelf.new seats.In)) result }
     ensures cause { EndsSo run_fault_of_receive (OpenFailed (lone_name name.now) (H.faults shelf.old) (H.faults shelf.new) (K.faults out.old) (K.faults out.new))
         (LoneCause receive_kind (H.faults shelf.old) (H.faults shelf.new) (K.faults out.old) (K.faults out.new)) result }
     ensures seats { SeatsAfter (lone_name name.now) (H.is_open shelf.new) result }
@@ -151,7 +151,7 @@ fn run_cells<H: Shelf, K: Sink>(
         Ok(()) => {}
         Err(Failed) => return Outcome::Fault(RunFault::OpenFault(Seat::In)),
     }
-    match read_cells(alloc, Reading { form }, aim, shelf, out) {
+    match read_cells(alloc, how, aim, shelf, out) {
         Ok(frames) => Outcome::Done(frames),
         Err(fault) => Outcome::Fault(RunFault::from(fault)),
     }
@@ -218,15 +218,13 @@ fn run_command<H: Shelf, K: Sink>(
     match command {
         Command::Remux { plan, a, b, c } => run_remux(alloc, &plan, a, b, c, shelf, out),
         Command::Code { plan, how, name } => run_code(alloc, &plan, how, name, shelf, out),
-        Command::Receive {
-            form,
-            partial,
-            name,
-        } => run_cells(alloc, form, aim_of(partial), name, shelf, out),
+        Command::Receive { how, partial, name } => {
+            run_cells(alloc, how, aim_of(partial), name, shelf, out)
+        }
         Command::ShowBts { mode, guard, name } => run_show_bts(
             alloc, mode, guard, name, shelf, out,
         ),
-        Command::ShowCells { form, name } => run_cells(alloc, form, Aim::Lines, name, shelf, out),
+        Command::ShowCells { how, name } => run_cells(alloc, how, Aim::Lines, name, shelf, out),
         Command::Sample { number } => run_sample(alloc, number, out),
     }
 }
@@ -293,8 +291,15 @@ pub fn run<H: Shelf, K: Sink, E: Sink>(
     // Cells that are near those of a plan, in either version of the stream, and no fault of the outside: the packets of the
     // plan's frames, each put off by its layer's delay, and no others, or no memory. With partial reception layer A's alone,
     // where the cells are near for layer A, the setting of each frame has the flag, and no head is refused.
-    ensures receive_near { (p : Schedule) (frames : FramePackets) (count : ℕ) (form : SomeForm) (partial : Bool) (name : Word) (stream : List ℕ) → Spells words.now (receive form partial name)
-        → H.holds shelf.old name ≡ Some stream → IsPlan p → ArePackets p frames count → IsNearFor partial (view_of form stream) p frames count → (partial ≡ true → NoBadHead (view_of form stream) count) → count ≤ frame_limit
+    ensures receive_near { (p : Schedule) (frames : FramePackets) (count : ℕ) (how : SomeReading) (partial : Bool) (name : Word) (stream : List ℕ) → Spells words.now (receive how partial name)
+        → H.holds shelf.old name ≡ Some stream → IsPlan p → ArePackets p frames count → IsNearFor partial (view_of how stream) p frames count → (partial ≡ true → NoBadHead (view_of how stream) count) → count ≤ frame_limit
+        → NothingRose (lone_name name) (H.faults shelf.old) (H.faults shelf.new) (K.faults out.old) (K.faults out.new)
+        → IsDoneWith count (delivered_for partial p frames count) (K.written out.old) (K.written out.new) result }
+
+    // Where words are corrected, it is enough that each word differs from the plan's in at most eight of the bits from B20 on and
+    // in none before.
+    ensures receive_restored { (p : Schedule) (frames : FramePackets) (count : ℕ) (how : SomeReading) (partial : Bool) (name : Word) (stream : List ℕ) → Spells words.now (receive how partial name)
+        → H.holds shelf.old name ≡ Some stream → how.fix ≡ true → IsPlan p → ArePackets p frames count → IsRestorableFor partial (view_of how stream) p frames count → (partial ≡ true → NoBadHead (view_of how stream) count) → count ≤ frame_limit
         → NothingRose (lone_name name) (H.faults shelf.old) (H.faults shelf.new) (K.faults out.old) (K.faults out.new)
         → IsDoneWith count (delivered_for partial p frames count) (K.written out.old) (K.written out.new) result }
 
@@ -307,15 +312,15 @@ pub fn run<H: Shelf, K: Sink, E: Sink>(
 
     // The cells of a plan, as a coding writes them in a version of the stream that can carry it, are near it, for partial
     // reception too where each setting has the flag.
-    ensures near_cells { (p : Schedule) (frames : FramePackets) (count : ℕ) (form : SomeForm) (partial : Bool) → IsPlan p → CanCarryFor partial form p count → ArePackets p frames count → HasFlags partial p count
-        → IsNearFor partial (view_of form (product (sent_frame (writing_of form) p frames) count)) p frames count }
+    ensures near_cells { (p : Schedule) (frames : FramePackets) (count : ℕ) (how : SomeReading) (partial : Bool) → IsPlan p → CanCarryFor partial how.form p count → ArePackets p frames count → HasFlags partial p count
+        → IsNearFor partial (view_of how (product (sent_frame (writing_of how.form) p frames) count)) p frames count }
 
     // And the commands go one behind another, for inputs of whole packets with their sync bytes: a coding refuses nothing of
     // what a remultiplexing writes of them, the cells that it writes are near the plan and the multiplexed packets, so that a
     // receiving delivers these, with partial reception layer A's where each setting has the flag, and each input packet that a
     // frame places is delivered later by its layer's delay.
-    ensures chain { (p : Schedule) (form : SomeForm) (input : Which → List ℕ) (count : ℕ) → IsPlan p → CanCarry form p count
-        → ((x : Which) → IsGood (input x)) → ((x : Which) → IsBytes (input x)) → count ≤ frame_limit → IsChain p input form count }
+    ensures chain { (p : Schedule) (how : SomeReading) (input : Which → List ℕ) (count : ℕ) → IsPlan p → CanCarry how.form p count
+        → ((x : Which) → IsGood (input x)) → ((x : Which) → IsBytes (input x)) → count ≤ frame_limit → IsChain p input how count }
 
     // The rooms of both sinks stay.
     ensures out_room { K.room out.new ≡ K.room out.old }

@@ -262,15 +262,10 @@ fn check_receive(
     input: &str,
 ) -> Result<(), Fail> {
     let words = words_of(alloc, list)?;
-    let Command::Receive {
-        form,
-        partial,
-        name,
-    } = words.command()?
-    else {
+    let Command::Receive { how, partial, name } = words.command()? else {
         return Err(Fail::from("the words are another command"));
     };
-    assert_eq!(rt; (form, partial), (version, false));
+    assert_eq!(rt; (how.form, how.fix, partial), (version, false, false));
     assert!(rt; name == input);
     Ok(())
 }

@@ -4,7 +4,7 @@ use Rattle.std.proofs.Math.Nat.{mul-add-div_right, mul-add-mod_self_right}
 use Rattle.std.proofs.lemmas.Nat.{div_below, mod_below, div-mul-add, mod-mul-add}
 use Rattle.std.proofs.lemmas.Bool.{eq-eqb}
 use Rattle.isdbt_base.specs.declared.kinds.Mode.{Mode}
-use Rattle.isdbt_base.specs.declared.stream.Form.{Form}
+use Rattle.isdbt_base.specs.declared.stream.Reading.{Reading}
 use Rattle.isdbt_base.specs.declared.kinds.Layer.{Layer}
 use Rattle.isdbt_base.specs.declared.kinds.Layer.TheVariants.{A, B, C}
 use Rattle.isdbt_base.specs.LayerParameters.{LayerParameters, HasSegments}
@@ -121,22 +121,22 @@ words-near v p frames count plan packets shows x f j l h used late k =
     let sent = codeword_of 16 (frames (f - layer_delay (at_frame p f).mode l) x j) in
     let e = ap (λ word. differing word sent) (outer_word-plan v p frames count x plan packets shows f j l h used late k) ∙ differing-self sent in omega (arith, e)
 
-pub plan_cells-near : (form : Form) (p : Schedule) (frames : FramePackets) (count : ℕ) → IsPlan p → CanCarry form p count → ArePackets p frames count
-    → IsNear (view_of form (product (sent_frame (writing_of form) p frames) count)) p frames count
-plan_cells-near form p frames count plan carries packets =
-    let shows = shows_partial p frames count form (carries_partial p frames count form carries) in
+pub plan_cells-near : (how : Reading) (p : Schedule) (frames : FramePackets) (count : ℕ) → IsPlan p → CanCarry how.form p count → ArePackets p frames count
+    → IsNear (view_of how (product (sent_frame (writing_of how.form) p frames) count)) p frames count
+plan_cells-near how p frames count plan carries packets =
+    let shows = shows_partial p frames count how.fix how.form (carries_partial p frames count how.form carries) in
     record {
       whole = shows.whole;
       modes = shows.modes;
-      guards = shows_guards p frames count form carries;
+      guards = shows_guards p frames count how.fix how.form carries;
       words = shows.words;
       close = words-near _ p frames count plan packets shows;
     }
 
-pub plan_cells-near_partial : (form : Form) (p : Schedule) (frames : FramePackets) (count : ℕ) → IsPlan p → CanCarryPartial form p count → ArePackets p frames count → ((f : ℕ) → f < count → (at_frame p f).setting.partial ≡ true)
-    → IsNearPartial (view_of form (product (sent_frame (writing_of form) p frames) count)) p frames count
-plan_cells-near_partial form p frames count plan carries packets partial =
-    let shows = shows_partial p frames count form carries in
+pub plan_cells-near_partial : (how : Reading) (p : Schedule) (frames : FramePackets) (count : ℕ) → IsPlan p → CanCarryPartial how.form p count → ArePackets p frames count → ((f : ℕ) → f < count → (at_frame p f).setting.partial ≡ true)
+    → IsNearPartial (view_of how (product (sent_frame (writing_of how.form) p frames) count)) p frames count
+plan_cells-near_partial how p frames count plan carries packets partial =
+    let shows = shows_partial p frames count how.fix how.form carries in
     record {
       whole = shows.whole;
       modes = shows.modes;

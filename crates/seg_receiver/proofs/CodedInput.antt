@@ -6,7 +6,7 @@ use Rattle.std.proofs.lemmas.List.{length-take-le, get_or-take}
 use Rattle.std.proofs.lemmas.List.Elements.{All-take, All-drop, All-filter}
 use Rattle.std.proofs.lemmas.List.FromFn.{length-range_with_len, get_or-range_with_len}
 use Rattle.isdbt_base.specs.declared.stream.Writing.{Writing}
-use Rattle.isdbt_base.specs.declared.stream.Form.{Form}
+use Rattle.isdbt_base.specs.declared.stream.Reading.{Reading}
 use Rattle.isdbt_base.specs.declared.kinds.Layer.{Layer}
 use Rattle.isdbt_base.specs.Parameters.{number_of}
 use Rattle.isdbt_base.specs.Numbers.{packets_per_frame}
@@ -106,15 +106,15 @@ unfolding coded_frame
 coded-is how p input head f found = ap (λ o. sent_frame how p (frames_from p input o) f) found
 
 -- what is written of an input is near
-pub coded-near : (form : Form) (p : Schedule) (input : List ℕ) (count limit head : ℕ) → IsPlan p → IsBytes input → ArePassed (code_refusal p input limit) (is_there p input) count → CanCarry form p count → first_head input ≡ Some head
-    → ArePackets p (input_frames p input head) count × IsNear (view_of form (product (coded_frame (writing_of form) p input) count)) p (input_frames p input head) count
-coded-near form p input count limit head plan bytes passed carries found =
-    let how = writing_of form in
+pub coded-near : (how : Reading) (p : Schedule) (input : List ℕ) (count limit head : ℕ) → IsPlan p → IsBytes input → ArePassed (code_refusal p input limit) (is_there p input) count → CanCarry how.form p count → first_head input ≡ Some head
+    → ArePackets p (input_frames p input head) count × IsNear (view_of how (product (coded_frame (writing_of how.form) p input) count)) p (input_frames p input head) count
+coded-near how p input count limit head plan bytes passed carries found =
+    let writing = writing_of how.form in
     let frames = input_frames p input head in
     let packets = input-packets p input limit head count found passed bytes in (
       packets,
-      subst (λ stream. IsNear (view_of form stream) p frames count) (sym (product-same (coded_frame how p input) (sent_frame how p frames) count (λ f h. coded-is how p input head f found)))
-          (plan_cells-near form p frames count plan carries packets),
+      subst (λ stream. IsNear (view_of how stream) p frames count) (sym (product-same (coded_frame writing p input) (sent_frame writing p frames) count (λ f h. coded-is writing p input head f found)))
+          (plan_cells-near how p frames count plan carries packets),
     )
 
 -- where there is no head nothing is written

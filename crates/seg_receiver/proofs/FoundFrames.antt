@@ -6,7 +6,7 @@ use Rattle.std.specs.List.{range_with_len}
 use Rattle.std.proofs.lemmas.List.{take-take, length-take, length-drop}
 use Rattle.isdbt_base.specs.declared.kinds.Layer.{Layer}
 use Rattle.isdbt_base.specs.declared.stream.Writing.{Writing}
-use Rattle.isdbt_base.specs.declared.stream.Form.{Form}
+use Rattle.isdbt_base.specs.declared.stream.Reading.{Reading}
 use Rattle.isdbt_base.specs.LayerParameters.{LayerParameters}
 use Rattle.isdbt_base.specs.Parameters.{layer_of, number_of}
 use Rattle.isdbt_base.specs.Numbers.{packets_per_frame}
@@ -131,8 +131,8 @@ coded-broadcast how p frames count plan sizes =
 pub sizes_of : (p : Schedule) (frames : FramePackets) (count : ℕ) → ArePackets p frames count → HaveSize p frames count
 sizes_of p frames count packets f j x l h used k = (packets f j x l h used k).0.size
 
-pub received-broadcast : (form : Form) (p : Schedule) (frames : FramePackets) (count : ℕ) → IsPlan p → CanCarry form p count → ArePackets p frames count
-    → received (view_of form (product (coded_frame (writing_of form) p (broadcast_stream p frames count)) count)) count ≡ delivered p frames count
-received-broadcast form p frames count plan carries packets =
-    ap (λ stream. received (view_of form stream) count) (coded-broadcast (writing_of form) p frames count plan (sizes_of p frames count packets))
-    ∙ received-near (view_of form (product (sent_frame (writing_of form) p frames) count)) p frames count plan packets (plan_cells-near form p frames count plan carries packets)
+pub received-broadcast : (how : Reading) (p : Schedule) (frames : FramePackets) (count : ℕ) → IsPlan p → CanCarry how.form p count → ArePackets p frames count
+    → received (view_of how (product (coded_frame (writing_of how.form) p (broadcast_stream p frames count)) count)) count ≡ delivered p frames count
+received-broadcast how p frames count plan carries packets =
+    ap (λ stream. received (view_of how stream) count) (coded-broadcast (writing_of how.form) p frames count plan (sizes_of p frames count packets))
+    ∙ received-near (view_of how (product (sent_frame (writing_of how.form) p frames) count)) p frames count plan packets (plan_cells-near how p frames count plan carries packets)

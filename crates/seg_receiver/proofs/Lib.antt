@@ -34,3 +34,4 @@ pub mod TakenFrames
 pub mod UnreadStreams
 pub mod UnreadViews
 pub mod ViewLaws
+pub mod RestoredWords

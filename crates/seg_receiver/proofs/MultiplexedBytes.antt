@@ -3,7 +3,7 @@ use Rattle.std.proofs.Common.{◌≡◌, ℕ, ◌+◌, ◌*◌, ◌<◌, List, �
 use Rattle.std.proofs.lemmas.Bool.{cases_lt, lt-ltb, le-ltb}
 use Rattle.std.proofs.lemmas.List.Elements.{All-take, All-drop, All-cons, All-replicate}
 use Rattle.isdbt_base.specs.declared.kinds.Layer.{Layer}
-use Rattle.isdbt_base.specs.declared.stream.Form.{Form}
+use Rattle.isdbt_base.specs.declared.stream.Reading.{Reading}
 use Rattle.isdbt_base.specs.Plans.{Schedule, IsPlan}
 use Rattle.isdbt_base.specs.Outcome.{product}
 use Rattle.ts_packet.specs.Packets.{null_packet, piece, piece_count, piece_or_null, IsPacket}
@@ -64,7 +64,7 @@ multiplexed-packet p input good all f x j =
 pub multiplexed-packets : (p : Schedule) (input : Layer → List ℕ) (count : ℕ) → ((x : Layer) → IsGood (input x)) → ((x : Layer) → IsBytes (input x)) → ArePackets p (multiplexed p input) count
 multiplexed-packets p input count good all = λ f j x l h used k. multiplexed-packet p input good all f x j
 
-pub received-chain : (form : Form) (p : Schedule) (input : Layer → List ℕ) (count : ℕ) → IsPlan p → CanCarry form p count → ((x : Layer) → IsGood (input x)) → ((x : Layer) → IsBytes (input x))
-    → received (view_of form (product (coded_frame (writing_of form) p (product (written_frame p input) count)) count)) count ≡ delivered p (multiplexed p input) count
-received-chain form p input count plan carries good all =
-    received-broadcast form p (multiplexed p input) count plan carries (multiplexed-packets p input count good all)
+pub received-chain : (how : Reading) (p : Schedule) (input : Layer → List ℕ) (count : ℕ) → IsPlan p → CanCarry how.form p count → ((x : Layer) → IsGood (input x)) → ((x : Layer) → IsBytes (input x))
+    → received (view_of how (product (coded_frame (writing_of how.form) p (product (written_frame p input) count)) count)) count ≡ delivered p (multiplexed p input) count
+received-chain how p input count plan carries good all =
+    received-broadcast how p (multiplexed p input) count plan carries (multiplexed-packets p input count good all)

@@ -18,7 +18,7 @@ use Rattle.isdbt_base.specs.Frames.{FramePackets}
 use Rattle.isdbt_base.proofs.PlanEpochs.{epoch_start-le, same_epoch}
 use Rattle.seg_receiver.specs.Epochs.{epoch_start, epoch_head}
 use Rattle.seg_receiver.specs.HeadChecks.{unread_byte, other_byte, least, bad_byte}
-use Rattle.seg_receiver.specs.CellStream.{head_said, bytes_said, second_start, bytes_from, mode_said, guard_said, second_mode, second_guard, second_word, second_due, second_version, view_of, NoBadHead}
+use Rattle.seg_receiver.specs.CellStream.{head_said, bytes_said, second_start, bytes_from, mode_said, guard_said, second_mode, second_guard, second_word, second_due, second_version, version_of, NoBadHead}
 use Rattle.seg_receiver.specs.Delivered.{IsNear}
 use Rattle.seg_receiver.proofs.GoodHeads.{said-tail}
 use Rattle.seg_receiver.proofs.NearDelivered.{epoch_start-plan}
@@ -92,7 +92,7 @@ fine-byte due head said is same = ap (λ r. least (unread_byte r) (other_byte du
 
 -- ---- the heads of a stream
 
-module _ (stream : List ℕ) (p : Schedule) (frames : FramePackets) (count : ℕ) (plan : IsPlan p) (near : IsNear (second_version stream) p frames count) where
+module _ (fix : Bool) (stream : List ℕ) (p : Schedule) (frames : FramePackets) (count : ℕ) (plan : IsPlan p) (near : IsNear (second_version fix stream) p frames count) where
   -- the head of each of its frames is read
   said-of : (f : ℕ) (r : Result (Mode × Guard) HeadFault) → f < count → head_said (bytes_from stream f) ≡ r → (said : Mode × Guard) × (head_said (bytes_from stream f) ≡ Ok said)
   said-of f (Ok said) h is = (said, is)
@@ -100,14 +100,14 @@ module _ (stream : List ℕ) (p : Schedule) (frames : FramePackets) (count : ℕ
       let next = start-next stream f ∙ ap (λ r. second_start stream f + bytes_said (length (bytes_from stream f)) r) is in
       let k : second_start stream (f + 1) ≡ second_start stream f + (length (bytes_from stream f) + 1) = next in
       let size = length-drop (second_start stream f) stream in
-      let end = starts-le (second_version stream) stream (f + 1) count (laid V2 stream) (omega (arith, h)) in
+      let end = starts-le (second_version fix stream) stream (f + 1) count (laid fix V2 stream) (omega (arith, h)) in
       let whole = near.whole in
       absurd (omega (arith, k, size, end, whole))
 
   -- within an epoch it says what the head before says
-  same_as_before : (g : ℕ) → suc g < count → (epoch_start (second_word stream) (suc g) ≡ suc g → ⊥) → (second_mode stream (suc g) ≡ second_mode stream g) × (second_guard stream (suc g) ≡ second_guard stream g)
+  same_as_before : (g : ℕ) → suc g < count → (epoch_start (second_word fix stream) (suc g) ≡ suc g → ⊥) → (second_mode stream (suc g) ≡ second_mode stream g) × (second_guard stream (suc g) ≡ second_guard stream g)
   same_as_before g h other =
-      let begun = epoch_start-plan p (second_word stream) (suc g) plan (λ k l. near.words k (omega (arith, h, l))) in
+      let begun = epoch_start-plan p (second_word fix stream) (suc g) plan (λ k l. near.words k (omega (arith, h, l))) in
       let le = epoch_start-le p (suc g) in
       let within : (at_frame p (suc g)).start ≤ g =
       elim (eqb_tells (at_frame p (suc g)).start (suc g)) [
@@ -117,23 +117,23 @@ module _ (stream : List ℕ) (p : Schedule) (frames : FramePackets) (count : ℕ
       let epoch = same_epoch p g (suc g) plan (omega arith) within in
       (near.modes (suc g) h ∙ sym epoch.mode ∙ sym (near.modes g (omega (arith, h))), near.guards (suc g) h ∙ sym epoch.guard ∙ sym (near.guards g (omega (arith, h))))
 
-  due-fine : (g : ℕ) (said : Mode × Guard) (b : Bool) → suc g < count → (epoch_start (second_word stream) (suc g) == suc g) ≡ b → head_said (bytes_from stream (suc g)) ≡ Ok said
+  due-fine : (g : ℕ) (said : Mode × Guard) (b : Bool) → suc g < count → (epoch_start (second_word fix stream) (suc g) == suc g) ≡ b → head_said (bytes_from stream (suc g)) ≡ Ok said
       → other_byte (if b then None else Some (second_mode stream g, second_guard stream g)) (take 8 (bytes_from stream (suc g))) ≡ None
   due-fine g said true h begins is = refl
   due-fine g said false h begins is =
       let head = take 8 (bytes_from stream (suc g)) in
-      let same = same_as_before g h (eqb-false (epoch_start (second_word stream) (suc g)) (suc g) begins) in
+      let same = same_as_before g h (eqb-false (epoch_start (second_word fix stream) (suc g)) (suc g) begins) in
       let mode : said.0 ≡ second_mode stream g = sym (ap mode_said is) ∙ same.0 in
       let guard : said.1 ≡ second_guard stream g = sym (ap guard_said is) ∙ same.1 in
       ap (λ m. other_byte (Some (m, second_guard stream g)) head) (sym mode) ∙ ap (λ k. other_byte (Some (said.0, k)) head) (sym guard) ∙ not_other head said is
 
-  fine-head : (f : ℕ) → f < count → bad_byte (second_due stream f) (take 8 (bytes_from stream f)) ≡ None
+  fine-head : (f : ℕ) → f < count → bad_byte (second_due fix stream f) (take 8 (bytes_from stream f)) ≡ None
   unfolding epoch_head
   fine-head zero h = (let said = said-of zero (head_said (bytes_from stream zero)) h refl in fine-byte None (take 8 (bytes_from stream zero)) said.0 said.1 refl)
   fine-head (suc g) h =
       let said = said-of (suc g) (head_said (bytes_from stream (suc g))) h refl in
-      fine-byte (second_due stream (suc g)) (take 8 (bytes_from stream (suc g))) said.0 said.1 (due-fine g said.0 (epoch_start (second_word stream) (suc g) == suc g) h refl said.1)
+      fine-byte (second_due fix stream (suc g)) (take 8 (bytes_from stream (suc g))) said.0 said.1 (due-fine g said.0 (epoch_start (second_word fix stream) (suc g) == suc g) h refl said.1)
 
-pub near-heads : (form : Form) (stream : List ℕ) (p : Schedule) (frames : FramePackets) (count : ℕ) → IsPlan p → IsNear (view_of form stream) p frames count → NoBadHead (view_of form stream) count
-near-heads (V1 mode guard) stream p frames count plan near f h = refl
-near-heads V2 stream p frames count plan near f h = fine-head stream p frames count plan near f h
+pub near-heads : (fix : Bool) (form : Form) (stream : List ℕ) (p : Schedule) (frames : FramePackets) (count : ℕ) → IsPlan p → IsNear (version_of fix form stream) p frames count → NoBadHead (version_of fix form stream) count
+near-heads fix (V1 mode guard) stream p frames count plan near f h = refl
+near-heads fix V2 stream p frames count plan near f h = fine-head fix stream p frames count plan near f h

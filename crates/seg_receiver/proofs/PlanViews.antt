@@ -1,5 +1,5 @@
 -- Views that show what is sent of a plan, in either version of the stream.
-use Rattle.std.proofs.Common.{◌≡◌, ℕ, zero, suc, ◌+◌, ◌-◌, ◌*◌, ◌≤◌, ◌<◌, List, ◌++◌, length, take, drop, refl, arith, ap, sym, ◌∙◌, subst, Ok, true, false, Err, length-append, length-drop}
+use Rattle.std.proofs.Common.{◌≡◌, ℕ, zero, suc, ◌+◌, ◌-◌, ◌*◌, ◌≤◌, ◌<◌, Bool, List, ◌++◌, length, take, drop, refl, arith, ap, sym, ◌∙◌, subst, Ok, true, false, Err, length-append, length-drop}
 use Rattle.std.specs.declared.result.Result.{Result}
 use Rattle.std.proofs.lemmas.List.{take-take, drop-take}
 use Rattle.isdbt_base.specs.declared.kinds.Mode.{Mode}
@@ -16,12 +16,13 @@ use Rattle.isdbt_base.specs.Frames.{FramePackets}
 use Rattle.isdbt_base.specs.Outcome.{product}
 use Rattle.isdbt_base.proofs.Products.{product-none, product-more}
 use Rattle.coder_core.specs.SentCells.{epoch_cell, frame_cells, sent_frame, plan_word, frame_size}
-use Rattle.seg_receiver.specs.CellStream.{View, stream_word, stream_cell, first_version, head_said, bytes_said, second_start, bytes_from, symbols_from, mode_said, guard_said, second_version, view_of, writing_of, AreInRow}
+use Rattle.seg_receiver.specs.CellStream.{View, stream_word, word_by, stream_cell, first_version, head_said, bytes_said, second_start, bytes_from, symbols_from, mode_said, guard_said, second_mode, second_guard, second_version, version_of, writing_of, AreInRow}
 use Rattle.seg_receiver.specs.Delivered.{CanCarry, CanCarryPartial}
 use Rattle.seg_receiver.proofs.RangeCuts.{take-front, drop-front, cut_at}
 use Rattle.seg_receiver.proofs.StreamLaws.{length-frame_cells, frame-word, frame-cell}
 use Rattle.seg_receiver.proofs.SymbolPlaces.{shows-frame, word-frame}
 use Rattle.seg_receiver.proofs.ViewLaws.{laid, starts-le, start-next}
+use Rattle.seg_receiver.proofs.RestoredWords.{plan_word-by}
 
 -- a view shows the first frames of a plan and no more: each in the plan's mode, with its word and with its cells
 pub record ShowsPlan (v : View) (p : Schedule) (frames : FramePackets) (count : ℕ) : Type 0 where
@@ -80,11 +81,11 @@ module _ (mode : Mode) (guard : Guard) (p : Schedule) (frames : FramePackets) (c
   held-first : (f : ℕ) → f < count → take (frame_size mode) (drop (f * frame_size mode) (product sent count)) ≡ frame_cells p frames f
   held-first f h = cut-product sent count f (f * frame_size mode) (frame_size mode) h (length-before f (omega arith)) (length-sent f h) ∙ sent-is f
 
-  pub first-shows : ShowsPlan (first_version mode guard (product sent count)) p frames count
-  first-shows = record {
+  pub first-shows : (fix : Bool) → ShowsPlan (first_version fix mode guard (product sent count)) p frames count
+  first-shows fix = record {
     whole = length-before count (omega arith);
     modes = λ f h. sym (sends f h);
-    words = λ f h. held-word mode (product sent count) f p frames f (sends f h) (held-first f h);
+    words = λ f h. ap (word_by fix) (held-word mode (product sent count) f p frames f (sends f h) (held-first f h)) ∙ plan_word-by fix p f;
     cells = λ f k segment carrier h l s c. held-cell mode (product sent count) f p frames f k segment carrier (sends f h) (held-first f h) l s c;
   }
 
@@ -155,17 +156,17 @@ module _ (p : Schedule) (frames : FramePackets) (count : ℕ) where
       ∙ sym (drop-take 8 (frame_size (at_frame p f).mode) (bytes_from all f)) ∙ ap (drop 8) (piece-at f (second_start all f) h (start-is f (omega arith)))
       ∙ drop-front (head_bytes (at_frame p f).mode (at_frame p f).guard) (frame_cells p frames f) 8 refl
 
-  pub second-mode : (f : ℕ) → f < count → (second_version all).mode f ≡ (at_frame p f).mode
+  pub second-mode : (f : ℕ) → f < count → second_mode all f ≡ (at_frame p f).mode
   second-mode f h = ap mode_said (said-is f h)
 
-  pub second-guard : (f : ℕ) → f < count → (second_version all).guard f ≡ (at_frame p f).guard
+  pub second-guard : (f : ℕ) → f < count → second_guard all f ≡ (at_frame p f).guard
   second-guard f h = ap guard_said (said-is f h)
 
-  pub second-shows : ShowsPlan (second_version all) p frames count
-  second-shows = record {
+  pub second-shows : (fix : Bool) → ShowsPlan (second_version fix all) p frames count
+  second-shows fix = record {
     whole = sym (start-is count (omega arith));
     modes = second-mode;
-    words = λ f h. ap (λ m. stream_word m (symbols_from all f) 0) (second-mode f h) ∙ held-word (at_frame p f).mode (symbols_from all f) 0 p frames f refl (held-second f h);
+    words = λ f h. ap (word_by fix) (ap (λ m. stream_word m (symbols_from all f) 0) (second-mode f h) ∙ held-word (at_frame p f).mode (symbols_from all f) 0 p frames f refl (held-second f h)) ∙ plan_word-by fix p f;
     cells = λ f k segment carrier h l s c. ap (λ m. stream_cell m (symbols_from all f) 0 k segment carrier) (second-mode f h)
         ∙ held-cell (at_frame p f).mode (symbols_from all f) 0 p frames f k segment carrier refl (held-second f h) l s c;
   }
@@ -173,24 +174,24 @@ module _ (p : Schedule) (frames : FramePackets) (count : ℕ) where
 -- ---- either version
 
 module _ (p : Schedule) (frames : FramePackets) (count : ℕ) where
-  pub shows_partial : (form : Form) → CanCarryPartial form p count → ShowsPlan (view_of form (product (sent_frame (writing_of form) p frames) count)) p frames count
-  shows_partial (V1 mode guard) sends = first-shows mode guard p frames count sends
-  shows_partial V2 carries = second-shows p frames count
+  pub shows_partial : (fix : Bool) (form : Form) → CanCarryPartial form p count → ShowsPlan (version_of fix form (product (sent_frame (writing_of form) p frames) count)) p frames count
+  shows_partial fix (V1 mode guard) sends = first-shows mode guard p frames count sends fix
+  shows_partial fix V2 carries = second-shows p frames count fix
 
   pub carries_partial : (form : Form) → CanCarry form p count → CanCarryPartial form p count
   carries_partial (V1 mode guard) sends = λ f h. (sends f h).0
   carries_partial V2 carries = tt
 
-  pub shows_guards : (form : Form) → CanCarry form p count → (f : ℕ) → f < count → (view_of form (product (sent_frame (writing_of form) p frames) count)).guard f ≡ (at_frame p f).guard
-  shows_guards (V1 mode guard) sends f h = sym (sends f h).1
-  shows_guards V2 carries f h = second-guard p frames count f h
+  pub shows_guards : (fix : Bool) (form : Form) → CanCarry form p count → (f : ℕ) → f < count → (version_of fix form (product (sent_frame (writing_of form) p frames) count)).guard f ≡ (at_frame p f).guard
+  shows_guards fix (V1 mode guard) sends f h = sym (sends f h).1
+  shows_guards fix V2 carries f h = second-guard p frames count f h
 
 -- ---- frames in a row
 
 -- where the stream ends with a frame, no frame before it begins past its end
 later : (stream : List ℕ) (f count : ℕ) → f < count → length stream ≡ second_start stream count → second_start stream (f + 1) ≤ length stream
 later stream f count less whole =
-    let from = starts-le (second_version stream) stream (f + 1) count (laid V2 stream) (omega (arith, less)) in
+    let from = starts-le (second_version false stream) stream (f + 1) count (laid false V2 stream) (omega (arith, less)) in
     omega (arith, from, whole)
 
 second-row : (stream : List ℕ) (f : ℕ) (said : Result (Mode × Guard) HeadFault) → head_said (bytes_from stream f) ≡ said → second_start stream (f + 1) ≤ length stream
@@ -206,6 +207,6 @@ second-row stream f (Err fault) is within =
     let size = length-drop (second_start stream f) stream in
     absurd (omega (arith, next, size, within))
 
-pub in_row : (form : Form) (stream : List ℕ) (count : ℕ) → length stream ≡ (view_of form stream).starts count → AreInRow (view_of form stream) count
-in_row (V1 mode guard) stream count whole = λ f less. omega arith
-in_row V2 stream count whole = λ f less. second-row stream f (head_said (bytes_from stream f)) refl (later stream f count less whole)
+pub in_row : (fix : Bool) (form : Form) (stream : List ℕ) (count : ℕ) → length stream ≡ (version_of fix form stream).starts count → AreInRow (version_of fix form stream) count
+in_row fix (V1 mode guard) stream count whole = λ f less. omega arith
+in_row fix V2 stream count whole = λ f less. second-row stream f (head_said (bytes_from stream f)) refl (later stream f count less whole)

@@ -18,7 +18,7 @@ use Rattle.coder_core.specs.SentCells.{frame_size}
 use Rattle.seg_receiver.specs.declared.aim.Aim.{Aim}
 use Rattle.seg_receiver.specs.declared.fault.ReceiveFault.{ReceiveFault}
 use Rattle.seg_receiver.specs.declared.fault.ReceiveFault.TheVariants.{Truncated, TooLong}
-use Rattle.seg_receiver.specs.CellStream.{stream_word, View}
+use Rattle.seg_receiver.specs.CellStream.{stream_word, word_by, View}
 use Rattle.seg_receiver.specs.ReceiveRefusals.{receive_is_there, cut_refusal, head_refusal, word_refusal, word_before, receive_refusal}
 use Rattle.seg_receiver.specs.ReceiveAnswers.{given_frame, receive_command}
 use Rattle.seg_receiver.specs.FrameReading.{Came, Stopped}
@@ -255,10 +255,8 @@ module _ (v : View) (stream : List ℕ) (laid : IsLaid v stream) (aim : Aim) (li
         omega (arith, counted, left_over, size, full, end, within)
 
     -- its word is that of the frame
-    word-part : (part : List ℕ) → part ≡ take (frame_size said.0) rest → stream_word said.0 part 0 ≡ v.word f
-    word-part part is =
-        word-frame said.0 rest part 0 (is ∙ ap (λ n. take (frame_size said.0) (drop n rest)) (let e : 0 ≡ 0 * frame_size said.0 = omega arith in e))
-        ∙ ap (λ m. stream_word m rest 0) (sym head.mode) ∙ laid.words f
+    word-part : (part : List ℕ) → part ≡ take (frame_size said.0) rest → word_by v.fix (stream_word said.0 part 0) ≡ v.word f
+    word-part part is = ap (word_by v.fix) (came-part v stream f said.0 part laid head.mode is) ∙ laid.words f
 
     refusal-of_whole : v.starts (f + 1) ≤ length stream → receive_refusal v aim limit f ≡ word_refusal f aim last (read (v.word f))
     refusal-of_whole whole =
@@ -267,7 +265,7 @@ module _ (v : View) (stream : List ℕ) (laid : IsLaid v stream) (aim : Aim) (li
         let within = head.within in
         refusal-whole v aim stream limit f last less (omega (arith, size, rises, whole)) (omega (arith, size, within)) head.fine (omega (arith, size, whole)) so_far.word
 
-    pub frame-refused : (n : ℕ) (fault : ReceiveFault) (part : List ℕ) (left' : Option (List ℕ)) → length part ≡ frame_size said.0 → Came part rest left' n → FrameRefused said.0 v.head aim f last part n fault
+    pub frame-refused : (n : ℕ) (fault : ReceiveFault) (part : List ℕ) (left' : Option (List ℕ)) → length part ≡ frame_size said.0 → Came part rest left' n → FrameRefused v.fix said.0 v.head aim f last part n fault
         → Refused receiving.frames (TookAtMost receiving left') fault before now
     frame-refused n fault part left' size came (inl cut_off) =
         let left_over = length-drop (v.starts f + v.head) stream in
@@ -292,7 +290,7 @@ module _ (v : View) (stream : List ℕ) (laid : IsLaid v stream) (aim : Aim) (li
         (omega (arith, counted, size, end)) (came.left_is ∙ ap Some (drop-drop n (v.starts f + v.head) stream ∙ ap (λ m. drop m stream) (let e : v.starts f + v.head + n ≡ v.starts f + (v.head + n) = omega arith in e) ∙ sym (drop-drop (v.head + n) (v.starts f) stream)))
 
     pub taken_frame : (n : ℕ) (word : TmccFields × Bool) (frame part : List ℕ) (left' : Option (List ℕ)) → length part ≡ frame_size said.0 → take (frame_size said.0) frame ≡ part → length part ≤ n
-        → read (stream_word said.0 part 0) ≡ Ok word → word_refusal f aim last (read (stream_word said.0 part 0)) ≡ None → Came part rest left' n → Taken v aim stream limit f said last word frame left'
+        → read (word_by v.fix (stream_word said.0 part 0)) ≡ Ok word → word_refusal f aim last (read (word_by v.fix (stream_word said.0 part 0))) ≡ None → Came part rest left' n → Taken v aim stream limit f said last word frame left'
     taken_frame n word frame part left' size front full says fine came =
         let whole = whole-there n part left' size full came in
         let is = whole-part n part left' size full came in

@@ -13,39 +13,34 @@ use Rattle.isdbt_base.specs.declared.stream.Form.TheVariants.{V1, V2}
 use Rattle.isdbt_base.specs.Heads.{head_read}
 use Rattle.isdbt_base.specs.Numbers.{carriers}
 use Rattle.isdbt_base.proofs.RangeLaws.{map-same}
-use Rattle.tmcc_word.specs.Reading.{layer_field_at, setting_at, info_at, read}
+use Rattle.tmcc_word.specs.Reading.{read}
 use Rattle.seg_receiver.specs.Epochs.{epoch_head}
+use Rattle.seg_receiver.specs.FrameLines.{restored}
 use Rattle.seg_receiver.specs.HeadChecks.{other_byte, unread_byte, least, bad_byte}
-use Rattle.seg_receiver.specs.CellStream.{View, symbol_size, symbol_start, tmcc_bit, stream_word, stream_cell, head_said, bytes_said, second_start, bytes_from, mode_said, guard_said, second_due, second_version, view_of}
+use Rattle.seg_receiver.specs.CellStream.{View, symbol_size, symbol_start, tmcc_bit, stream_word, word_by, stream_cell, head_said, bytes_said, second_start, bytes_from, mode_said, guard_said, second_due, second_version, version_of}
 use Rattle.seg_receiver.specs.UnreadBits.{symbol_in, DifferUnread}
 use Rattle.seg_receiver.proofs.StableFrames.{epoch_start-same}
 use Rattle.seg_receiver.proofs.SymbolPlaces.{stream_cell-at}
 use Rattle.seg_receiver.proofs.UnreadViews.{ReadAlike}
-use Rattle.seg_receiver.proofs.ViewLaws.{laid}
+use Rattle.seg_receiver.proofs.ViewLaws.{laid, fix-of}
+use Rattle.seg_receiver.proofs.RestoredWords.{DifferFirst, same-read, same-restored}
 
 -- ---- words
-
--- what a word says doesn't depend on its first bit
-read-first : (a b : Bool) (rest : List Bool) → read (a ∷ rest) ≡ read (b ∷ rest)
-unfolding read info_at setting_at layer_field_at
-read-first a b rest = refl
 
 first-bit : (g : ℕ → Bool) → map g (range_with_len 0 204) ≡ g 0 ∷ map g (range_with_len 1 203)
 first-bit g = refl
 
--- of bytes whose symbols have the same lowest bits, but for the first, the word says the same
-word-alike : (mode : Mode) (xs ys : List ℕ) → ((k : ℕ) → 0 < k → k < 204 → slice_index xs (k * symbol_size mode) % 2 ≡ slice_index ys (k * symbol_size mode) % 2) → read (stream_word mode xs 0) ≡ read (stream_word mode ys 0)
+-- of bytes whose symbols have the same lowest bits, but for the first, the words differ at most in the first bit
+word-alike : (mode : Mode) (xs ys : List ℕ) → ((k : ℕ) → 0 < k → k < 204 → slice_index xs (k * symbol_size mode) % 2 ≡ slice_index ys (k * symbol_size mode) % 2) → DifferFirst (stream_word mode xs 0) (stream_word mode ys 0)
 unfolding stream_word
 word-alike mode xs ys same =
     let g = tmcc_bit mode xs 0 in
     let h = tmcc_bit mode ys 0 in
-    ap read (first-bit g)
-    ∙ read-first (g 0) (h 0) (map g (range_with_len 1 203))
-    ∙ ap (λ rest. read (h 0 ∷ rest)) (map-same g h 1 203 (λ k low high.
+    let behind : map g (range_with_len 1 203) ≡ map h (range_with_len 1 203) = map-same g h 1 203 (λ k low high.
     ap (λ n. slice_index xs n % 2 == 1) (let e : symbol_start mode 0 k ≡ k * symbol_size mode = omega arith in e)
     ∙ ap (λ n. n == 1) (same k (omega (arith, low)) (omega (arith, high)))
-    ∙ sym (ap (λ n. slice_index ys n % 2 == 1) (let e : symbol_start mode 0 k ≡ k * symbol_size mode = omega arith in e))))
-    ∙ sym (ap read (first-bit h))
+    ∙ sym (ap (λ n. slice_index ys n % 2 == 1) (let e : symbol_start mode 0 k ≡ k * symbol_size mode = omega arith in e))) in
+    record { a = g 0; b = h 0; rest = map h (range_with_len 1 203); is = first-bit g ∙ ap (λ rest. g 0 ∷ rest) behind; other_is = first-bit h }
 
 -- ---- cells
 
@@ -98,12 +93,12 @@ head-alike words other mode mode' guard guard' (suc f) says modes guards = rw (e
 -- ---- frames
 
 -- the words and the cells of two streams whose frames lie alike
-module _ (form : Form) (s t : List ℕ) (differ : DifferUnread (view_of form s) s t) (starts : (f : ℕ) → (view_of form s).starts f ≡ (view_of form t).starts f) (head : (view_of form s).head ≡ (view_of form t).head) (mode : (f : ℕ) → (view_of form s).mode f ≡ (view_of form t).mode f) where
+module _ (fix : Bool) (form : Form) (s t : List ℕ) (differ : DifferUnread (version_of fix form s) s t) (starts : (f : ℕ) → (version_of fix form s).starts f ≡ (version_of fix form t).starts f) (head : (version_of fix form s).head ≡ (version_of fix form t).head) (mode : (f : ℕ) → (version_of fix form s).mode f ≡ (version_of fix form t).mode f) where
   abbrev v : View
-  v = view_of form s
+  v = version_of fix form s
 
   abbrev w : View
-  w = view_of form t
+  w = version_of fix form t
 
   byte-from : (f n : ℕ) (xs : List ℕ) → slice_index (drop (v.starts f + v.head) xs) n ≡ slice_index xs (v.starts f + v.head + n)
   byte-from f n xs = get_or-drop (v.starts f + v.head) xs n 0
@@ -120,25 +115,37 @@ module _ (form : Form) (s t : List ℕ) (differ : DifferUnread (view_of form s) 
   place : (f : ℕ) → v.starts f + v.head ≡ w.starts f + w.head
   place f = ap (λ n. n + v.head) (starts f) ∙ ap (λ n. w.starts f + n) head
 
+  same-fix : v.fix ≡ w.fix
+  same-fix = fix-of fix form s ∙ sym (fix-of fix form t)
+
+  came-alike : (f : ℕ) → DifferFirst (v.came f) (w.came f)
+  came-alike f =
+      let here : DifferFirst (stream_word (v.mode f) (drop (v.starts f + v.head) s) 0) (stream_word (v.mode f) (drop (v.starts f + v.head) t) 0) = word-alike (v.mode f) (drop (v.starts f + v.head) s) (drop (v.starts f + v.head) t) (bits-from f) in
+      let there : stream_word (v.mode f) (drop (v.starts f + v.head) t) 0 ≡ w.came f =
+      ap (λ n. stream_word (v.mode f) (drop n t) 0) (place f) ∙ ap (λ m. stream_word m (drop (w.starts f + w.head) t) 0) (mode f) ∙ (laid fix form t).came f in
+      subst (λ came. DifferFirst came (w.came f)) ((laid fix form s).came f) (subst (DifferFirst (stream_word (v.mode f) (drop (v.starts f + v.head) s) 0)) there here)
+
   says-alike : (f : ℕ) → read (v.word f) ≡ read (w.word f)
   says-alike f =
-      ap read (sym ((laid form s).words f))
-      ∙ word-alike (v.mode f) (drop (v.starts f + v.head) s) (drop (v.starts f + v.head) t) (bits-from f)
-      ∙ ap (λ n. read (stream_word (v.mode f) (drop n t) 0)) (place f)
-      ∙ ap (λ m. read (stream_word m (drop (w.starts f + w.head) t) 0)) (mode f)
-      ∙ ap read ((laid form t).words f)
+      ap read (sym ((laid fix form s).words f))
+      ∙ same-read v.fix (v.came f) (w.came f) (came-alike f)
+      ∙ ap (λ b. read (word_by b (w.came f))) same-fix
+      ∙ ap read ((laid fix form t).words f)
+
+  restored-alike : (f : ℕ) → restored v.fix (v.came f) ≡ restored w.fix (w.came f)
+  restored-alike f = same-restored v.fix (v.came f) (w.came f) (came-alike f) ∙ ap (λ b. restored b (w.came f)) same-fix
 
   cells-alike : (f k segment carrier : ℕ) → k < 204 → segment < 13 → carrier < carriers (v.mode f) → v.cell f k segment carrier ≡ w.cell f k segment carrier
   cells-alike f k segment carrier l few c =
-      sym (((laid form s).shows f).each k segment carrier l few c)
+      sym (((laid fix form s).shows f).each k segment carrier l few c)
       ∙ cell-alike (v.mode f) (drop (v.starts f + v.head) s) (drop (v.starts f + v.head) t) (bytes-from f) k segment carrier l few c
       ∙ ap (λ n. stream_cell (v.mode f) (drop n t) 0 k segment carrier) (place f)
       ∙ ap (λ m. stream_cell m (drop (w.starts f + w.head) t) 0 k segment carrier) (mode f)
-      ∙ ((laid form t).shows f).each k segment carrier l few (subst (λ m. carrier < carriers m) (mode f) c)
+      ∙ ((laid fix form t).shows f).each k segment carrier l few (subst (λ m. carrier < carriers m) (mode f) c)
 
 -- ---- the second version
 
-module _ (s t : List ℕ) (differ : DifferUnread (second_version s) s t) where
+module _ (fix : Bool) (s t : List ℕ) (differ : DifferUnread (second_version fix s) s t) where
   head-bytes : (f : ℕ) → second_start s f ≡ second_start t f → (i : ℕ) → i < 6 → slice_index (bytes_from s f) i ≡ slice_index (bytes_from t f) i
   head-bytes f same i less =
       get_or-drop (second_start s f) s i 0 ∙ differ.heads f i (omega (arith, less)) less ∙ ap (λ n. slice_index t (n + i)) same ∙ sym (get_or-drop (second_start t f) t i 0)
@@ -156,37 +163,39 @@ module _ (s t : List ℕ) (differ : DifferUnread (second_version s) s t) where
   said-same : (f : ℕ) → head_said (bytes_from s f) ≡ head_said (bytes_from t f)
   said-same f = said-alike (bytes_from s f) (bytes_from t f) (head-bytes f (starts-alike f))
 
-  mode-same : (f : ℕ) → (second_version s).mode f ≡ (second_version t).mode f
+  mode-same : (f : ℕ) → (second_version fix s).mode f ≡ (second_version fix t).mode f
   mode-same f = ap mode_said (said-same f)
 
-  guard-same : (f : ℕ) → (second_version s).guard f ≡ (second_version t).guard f
+  guard-same : (f : ℕ) → (second_version fix s).guard f ≡ (second_version fix t).guard f
   guard-same f = ap guard_said (said-same f)
 
-  due-same : (f : ℕ) → second_due s f ≡ second_due t f
-  due-same f = head-alike (second_version s).word (second_version t).word (second_version s).mode (second_version t).mode (second_version s).guard (second_version t).guard f (says-alike V2 s t differ starts-alike refl mode-same) mode-same guard-same
+  due-same : (f : ℕ) → second_due fix s f ≡ second_due fix t f
+  due-same f = head-alike (second_version fix s).word (second_version fix t).word (second_version fix s).mode (second_version fix t).mode (second_version fix s).guard (second_version fix t).guard f (says-alike fix V2 s t differ starts-alike refl mode-same) mode-same guard-same
 
 -- ---- either version
 
-pub read_alike : (form : Form) (s t : List ℕ) → DifferUnread (view_of form s) s t → ReadAlike (view_of form s) (view_of form t)
-read_alike (V1 m g) s t differ = record {
+pub read_alike : (fix : Bool) (form : Form) (s t : List ℕ) → DifferUnread (version_of fix form s) s t → ReadAlike (version_of fix form s) (version_of fix form t)
+read_alike fix (V1 m g) s t differ = record {
   size = differ.size;
   starts = λ f. refl;
   head = refl;
   mode = λ f. refl;
   guard = λ f. refl;
-  says = says-alike (V1 m g) s t differ (λ f. refl) refl (λ f. refl);
+  says = says-alike fix (V1 m g) s t differ (λ f. refl) refl (λ f. refl);
+  restored = restored-alike fix (V1 m g) s t differ (λ f. refl) refl (λ f. refl);
   bad = λ f. refl;
-  cells = cells-alike (V1 m g) s t differ (λ f. refl) refl (λ f. refl);
+  cells = cells-alike fix (V1 m g) s t differ (λ f. refl) refl (λ f. refl);
   keeps = λ f fine other. refl;
 }
-read_alike V2 s t differ = record {
+read_alike fix V2 s t differ = record {
   size = differ.size;
-  starts = starts-alike s t differ;
+  starts = starts-alike fix s t differ;
   head = refl;
-  mode = mode-same s t differ;
-  guard = guard-same s t differ;
-  says = says-alike V2 s t differ (starts-alike s t differ) refl (mode-same s t differ);
-  bad = λ f. bad-alike (second_due s f) (second_due t f) (bytes_from s f) (bytes_from t f) (due-same s t differ f) (head-bytes s t differ f (starts-alike s t differ f));
-  cells = cells-alike V2 s t differ (starts-alike s t differ) refl (mode-same s t differ);
-  keeps = λ f fine other. ((laid V2 s).keeps f fine other).0;
+  mode = mode-same fix s t differ;
+  guard = guard-same fix s t differ;
+  says = says-alike fix V2 s t differ (starts-alike fix s t differ) refl (mode-same fix s t differ);
+  restored = restored-alike fix V2 s t differ (starts-alike fix s t differ) refl (mode-same fix s t differ);
+  bad = λ f. bad-alike (second_due fix s f) (second_due fix t f) (bytes_from s f) (bytes_from t f) (due-same fix s t differ f) (head-bytes fix s t differ f (starts-alike fix s t differ f));
+  cells = cells-alike fix V2 s t differ (starts-alike fix s t differ) refl (mode-same fix s t differ);
+  keeps = λ f fine other. ((laid fix V2 s).keeps f fine other).0;
 }

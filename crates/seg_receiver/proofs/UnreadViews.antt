@@ -12,7 +12,7 @@ use Rattle.seg_receiver.specs.declared.aim.Aim.TheVariants.{Full, Partial, Lines
 use Rattle.seg_receiver.specs.declared.fault.ReceiveFault.{ReceiveFault}
 use Rattle.seg_receiver.specs.CellStream.{View}
 use Rattle.seg_receiver.specs.Epochs.{countdown_read, epoch_start}
-use Rattle.seg_receiver.specs.FrameLines.{word_line, frame_line}
+use Rattle.seg_receiver.specs.FrameLines.{restored, word_line, frame_line}
 use Rattle.seg_receiver.specs.ReceiveRefusals.{receive_is_there, word_before, receive_refusal}
 use Rattle.seg_receiver.specs.ReceiveAnswers.{given_frame}
 use Rattle.seg_receiver.proofs.ReceiveProgress.{head-passed}
@@ -26,6 +26,7 @@ pub record ReadAlike (v w : View) : Type 0 where
   pub mode : (f : ℕ) → v.mode f ≡ w.mode f
   pub guard : (f : ℕ) → v.guard f ≡ w.guard f
   pub says : (f : ℕ) → read (v.word f) ≡ read (w.word f)
+  pub restored : (f : ℕ) → restored v.fix (v.came f) ≡ restored w.fix (w.came f)
   pub bad : (f : ℕ) → v.bad_head f ≡ w.bad_head f
   pub cells : (f k segment carrier : ℕ) → k < 204 → segment < 13 → carrier < carriers (v.mode f) → v.cell f k segment carrier ≡ w.cell f k segment carrier
   pub keeps : (f : ℕ) → v.bad_head (suc f) ≡ None → (epoch_start v.word (suc f) ≡ suc f → ⊥) → v.mode (suc f) ≡ v.mode f
@@ -80,7 +81,10 @@ module _ (v w : View) (alike : ReadAlike v w) where
 
   line-alike : (f : ℕ) → frame_line v f ≡ frame_line w f
   unfolding frame_line
-  line-alike f = ap (λ m. word_line m f (read (v.word f))) (alike.mode f) ∙ ap (word_line (w.mode f) f) (alike.says f)
+  line-alike f =
+      ap (λ m. word_line m f (restored v.fix (v.came f)) (read (v.word f))) (alike.mode f)
+      ∙ ap (λ n. word_line (w.mode f) f n (read (v.word f))) (alike.restored f)
+      ∙ ap (word_line (w.mode f) f (restored w.fix (w.came f))) (alike.says f)
 
   given-alike : (aim : Aim) (f : ℕ) → ((h : ℕ) → h ≤ f → v.bad_head h ≡ None) → given_frame v aim f ≡ given_frame w aim f
   given-alike Full f fine = received_frame-alike v w f (alike-at f fine)

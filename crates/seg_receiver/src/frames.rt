@@ -51,7 +51,7 @@ fn word_read(
 ) -> Result<Option<(TmccInfo, bool)>, ReceiveFault>
     requires size { length symbols.now ≡ frame_size frame.mode }
     requires most { count ≤ length symbols.now }
-    ensures check { (stream : List ℕ) → FrameCheck frame.how.fix frame.mode (view_of frame.how stream).head frame.aim frame.number before.now symbols.now count result }
+    ensures check { (stream : List ℕ) → FrameCheck (view_of frame.how stream).fix frame.mode (view_of frame.how stream).head frame.aim frame.number before.now symbols.now count result }
     ensures flag { IfOk result (λ o. IfSome o (λ word. frame.aim ≡ aims.Partial → word.0.now.partial ≡ true)) }
 {
     let over = head_bytes(frame.how.form) + count;

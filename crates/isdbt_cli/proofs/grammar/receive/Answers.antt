@@ -1,18 +1,22 @@
-use Rattle.std.proofs.Common.{◌++◌, ap, ◌∙◌}
+use Rattle.std.proofs.Common.{false, List, [], ◌++◌, ap, ◌∙◌, refl}
 use Rattle.std.specs.Prelude.{codes}
 use Rattle.std.proofs.lemmas.Result.{err_from_is_err_and}
-use Rattle.isdbt_cli.specs.CommandLines.{form_words, IsName}
+use Rattle.std.proofs.lemmas.List.{append-nil}
+use Rattle.isdbt_base.specs.declared.stream.Reading.{Reading}
+use Rattle.setting_words.specs.SettingWords.{Word}
+use Rattle.isdbt_cli.specs.CommandLines.{form_words, part_words, fix_words, IsName}
 use Rattle.isdbt_cli.specs.Parsing.{Follows}
 use Rattle.isdbt_cli.proofs.Stuck.{stuck_word, reads_both}
+use Rattle.isdbt_cli.proofs.ToldWords.{read_if, left_behind, stuck_after}
 use Rattle.isdbt_cli.proofs.CommandWords.{input_words}
 use Rattle.isdbt_cli.proofs.CellsSpelling.{reads_form, stuck_at_guard, follows_some, name_follows, stuck_tail}
-use Rattle.isdbt_cli.proofs.ReceiveSpelling.{Part, receive_lines, spells}
+use Rattle.isdbt_cli.proofs.ReceiveSpelling.{fixing, Reception, fix_is_new, receive_lines, spells}
 use Rattle.isdbt_cli.proofs.grammar.receive.Goals as goal
 
 pub returns-in_err-form : goal.returns-in_err-form
 returns-in_err-form c =
     let p = err_from_is_err_and c.from_residual.result c.from_residual.ensures.1 in
-    rw (p.1, p.2) (stuck_at_guard (Follows (codes "receive")) Part receive_lines c.args.words.now c.in_err-form.field-0.0 c.in_err-form.ensures.err)
+    rw (p.1, p.2) (stuck_at_guard (Follows (codes "receive")) Reception receive_lines c.args.words.now c.in_err-form.field-0.0 c.in_err-form.ensures.err)
 
 pub returns-in_err-name : goal.returns-in_err-name
 returns-in_err-name c =
@@ -20,20 +24,29 @@ returns-in_err-name c =
     let form = c.in_ok-form.form in
     let read = c.in_ok-form.ensures.ok in
     rw (p.1, p.2) (stuck_word IsName (λ name. codes "IN=" ++ name) (Follows (codes "receive")) (form_words form) c.args.words.now c.form.new.words c.in_err-name.field-0.0
-    (reads_form form c.args.words.now c.form.new.words read) c.in_err-name.ensures.err (follows_some (Follows (codes "receive")) Part receive_lines form)
-    (name_follows (Follows (codes "receive")) Part receive_lines form c.args.words.now c.form.new.words read))
+    (reads_form form c.args.words.now c.form.new.words read) c.in_err-name.ensures.err (follows_some (Follows (codes "receive")) Reception receive_lines form)
+    (name_follows (Follows (codes "receive")) Reception receive_lines form c.args.words.now c.form.new.words read))
 
-pub returns-in_err-partial : goal.returns-in_err-partial
-returns-in_err-partial c =
-    let p = err_from_is_err_and c.from_residual-in_err-partial.result c.from_residual-in_err-partial.ensures.1 in
+pub returns-in_err-end : goal.returns-in_err-end
+returns-in_err-end c =
+    let p = err_from_is_err_and c.from_residual-in_err-end.result c.from_residual-in_err-end.ensures.1 in
     let form = c.in_ok-form.form in
     let n = c.in_ok-name.name.now in
     let reads = reads_both (form_words form) (input_words n) c.args.words.now c.form.new.words c.name.new.words (reads_form form c.args.words.now c.form.new.words c.in_ok-form.ensures.ok) c.in_ok-name.ensures.ok in
-    rw (p.1, p.2) (stuck_tail (Follows (codes "receive")) Part receive_lines form n c.in_ok-name.ensures.name c.args.words.now c.name.new.words c.in_err-partial.field-0.0 reads c.in_err-partial.ensures.err)
+    let end = c.in_err-end.ensures.err in
+    let place = c.in_err-end.field-0.0 in
+    let behind_part = stuck_after (codes "fix") false [] c.told_word-fix.result c.told_word-partial.new.words c.told_word-fix.new.words place tt c.told_word-fix.ensures (λ e. refl) (left_behind c.told_word-fix.new.words place end.0 end.1) in
+    rw (p.1, p.2) (stuck_tail (Follows (codes "receive")) Reception receive_lines form n c.in_ok-name.ensures.name c.args.words.now c.name.new.words place reads
+    (stuck_after (codes "partial") false fixing c.told_word-partial.result c.name.new.words c.told_word-partial.new.words place (fix_is_new, tt) c.told_word-partial.ensures (λ e. refl) behind_part))
 
 pub returns : goal.returns
 returns c =
     let form = c.in_ok-form.form in
     let n = c.in_ok-name.name.now in
     let reads = reads_both (form_words form) (input_words n) c.args.words.now c.form.new.words c.name.new.words (reads_form form c.args.words.now c.form.new.words c.in_ok-form.ensures.ok) c.in_ok-name.ensures.ok in
-    spells form c.in_ok-partial.partial n c.args.words.now.words c.in_ok-name.ensures.name (reads.split ∙ ap (λ ws. (form_words form ++ input_words n) ++ ws) c.in_ok-partial.ensures.ok)
+    let partial = c.told_word-partial.result in
+    let fix = c.told_word-fix.result in
+    let how : Reading = record { form = form; fix = fix } in
+    let behind_part = read_if (codes "fix") fix c.told_word-partial.new.words c.told_word-fix.new.words c.told_word-fix.ensures ∙ ap (λ (ws : List Word). fix_words fix ++ ws) c.in_ok-end.ensures.ok ∙ append-nil (fix_words fix) in
+    let behind_name = read_if (codes "partial") partial c.name.new.words c.told_word-partial.new.words c.told_word-partial.ensures ∙ ap (λ (ws : List Word). part_words partial ++ ws) behind_part in
+    spells how partial n c.args.words.now.words c.in_ok-name.ensures.name (reads.split ∙ ap (λ (ws : List Word). (form_words form ++ input_words n) ++ ws) behind_name)

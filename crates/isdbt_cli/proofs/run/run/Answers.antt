@@ -10,7 +10,7 @@ use Rattle.isdbt_cli.specs.FrameLimit.{frame_limit}
 use Rattle.isdbt_cli.specs.Parsing.{command_of}
 use Rattle.isdbt_cli.proofs.OnePlace.{no_place, one_command}
 use Rattle.isdbt_cli.proofs.RunOutcomes.{ok_usage, fault_usage, same_answer, same_cause, same_seats, complete, sampled, good, coded, given, coded_done}
-use Rattle.isdbt_cli.proofs.Chains.{near_received, near_stream, near_cells, chain, coded_multiplex, wrote_near}
+use Rattle.isdbt_cli.proofs.Chains.{near_received, near_stream, restored_stream, near_cells, chain, coded_multiplex, wrote_near}
 use Rattle.isdbt_cli.proofs.run.run.Goals as goal
 
 pub returns-in-Ok-clause-usage : goal.returns-in-Ok-clause-usage
@@ -63,11 +63,19 @@ returns-in-Ok-clause-code_near g c = λ p how name input m spelled hold bytes do
     (same_answer (command_of c.in-Ok.command) (code p how name) _ _ _ _ _ same c.run_command-outcome.ensures.answer input hold) done)
 
 pub returns-in-Ok-clause-receive_near : goal.returns-in-Ok-clause-receive_near
-returns-in-Ok-clause-receive_near g c = λ p frames count form partial name stream spelled hold plan packets near fine few none.
-    let same = one_command c.args.words.now (command_of c.in-Ok.command) (receive form partial name) c.in-Ok.ensures spelled in
-    let all = near_stream form stream p frames count partial plan packets near fine few in
+returns-in-Ok-clause-receive_near g c = λ p frames count how partial name stream spelled hold plan packets near fine few none.
+    let same = one_command c.args.words.now (command_of c.in-Ok.command) (receive how partial name) c.in-Ok.ensures spelled in
+    let all = near_stream how stream p frames count partial plan packets near fine few in
     let whole : count ≤ count = omega arith in
-    given (g.H.Shelf.holds c.args.shelf.now) _ _ (g.H.Shelf.left c.run_command-outcome.new.shelf) _ _ _ _ c.run_command-outcome.result form partial name stream count (delivered_for partial p frames count) (same_answer (command_of c.in-Ok.command) (receive form partial name) _ _ _ _ _ same c.run_command-outcome.ensures.answer stream hold) (same_cause (command_of c.in-Ok.command) (receive form partial name) _ _ _ _ _ same c.run_command-outcome.ensures.cause) none all.outcome (all.product count whole)
+    given (g.H.Shelf.holds c.args.shelf.now) _ _ (g.H.Shelf.left c.run_command-outcome.new.shelf) _ _ _ _ c.run_command-outcome.result how partial name stream count (delivered_for partial p frames count) (same_answer (command_of c.in-Ok.command) (receive how partial name) _ _ _ _ _ same c.run_command-outcome.ensures.answer stream hold) (same_cause (command_of c.in-Ok.command) (receive how partial name) _ _ _ _ _ same c.run_command-outcome.ensures.cause) none all.outcome (all.product count whole)
+
+pub returns-in-Ok-clause-receive_restored : goal.returns-in-Ok-clause-receive_restored
+returns-in-Ok-clause-receive_restored g c = λ p frames count how partial name stream spelled hold on plan packets restorable fine few none.
+    let same = one_command c.args.words.now (command_of c.in-Ok.command) (receive how partial name) c.in-Ok.ensures spelled in
+    let near = restored_stream how stream p frames count partial on restorable in
+    let all = near_stream how stream p frames count partial plan packets near fine few in
+    let whole : count ≤ count = omega arith in
+    given (g.H.Shelf.holds c.args.shelf.now) _ _ (g.H.Shelf.left c.run_command-outcome.new.shelf) _ _ _ _ c.run_command-outcome.result how partial name stream count (delivered_for partial p frames count) (same_answer (command_of c.in-Ok.command) (receive how partial name) _ _ _ _ _ same c.run_command-outcome.ensures.answer stream hold) (same_cause (command_of c.in-Ok.command) (receive how partial name) _ _ _ _ _ same c.run_command-outcome.ensures.cause) none all.outcome (all.product count whole)
 
 pub returns-in-Ok-clause-near_received : goal.returns-in-Ok-clause-near_received
 returns-in-Ok-clause-near_received g c = near_received
@@ -109,7 +117,10 @@ pub returns-in-Err-clause-code_near : goal.returns-in-Err-clause-code_near
 returns-in-Err-clause-code_near g c = λ p how name input m spelled hold bytes done. absurd (no_place _ (code p how name) _ spelled c.in-Err.ensures)
 
 pub returns-in-Err-clause-receive_near : goal.returns-in-Err-clause-receive_near
-returns-in-Err-clause-receive_near g c = λ p frames count form partial name stream spelled hold plan packets near fine few none. absurd (no_place _ (receive form partial name) _ spelled c.in-Err.ensures)
+returns-in-Err-clause-receive_near g c = λ p frames count how partial name stream spelled hold plan packets near fine few none. absurd (no_place _ (receive how partial name) _ spelled c.in-Err.ensures)
+
+pub returns-in-Err-clause-receive_restored : goal.returns-in-Err-clause-receive_restored
+returns-in-Err-clause-receive_restored g c = λ p frames count how partial name stream spelled hold on plan packets restorable fine few none. absurd (no_place _ (receive how partial name) _ spelled c.in-Err.ensures)
 
 pub returns-in-Err-clause-near_received : goal.returns-in-Err-clause-near_received
 returns-in-Err-clause-near_received g c = near_received

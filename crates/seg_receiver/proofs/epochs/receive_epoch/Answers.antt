@@ -17,7 +17,7 @@ use Rattle.seg_receiver.proofs.epochs.receive_epoch.Goals as goal
 
 pub returns-in-Ok-None-clause-answer : goal.returns-in-Ok-None-clause-answer
 returns-in-Ok-None-clause-answer g c = λ stream first at.
-    let v = view_of c.args.reception.form stream in
+    let v = view_of c.args.reception.how stream in
     let limit = c.args.reception.limit in
     let f = c.args.start.now.frame in
     let due = first_due v (aim_of c.args.reception.partial) stream limit f (at.begun c.requires.below) in
@@ -26,14 +26,14 @@ returns-in-Ok-None-clause-answer g c = λ stream first at.
 
 pub returns-in-Err-clause-answer : goal.returns-in-Err-clause-answer
 returns-in-Err-clause-answer g c = λ stream first at.
-    let v = view_of c.args.reception.form stream in
+    let v = view_of c.args.reception.how stream in
     let limit = c.args.reception.limit in
     let due = first_due v (aim_of c.args.reception.partial) stream limit c.args.start.now.frame (at.begun c.requires.below) in
     c.in-Err.ensures.answer (aim_of c.args.reception.partial) stream limit c.args.start.now.before first (g.K.Sink.written c.args.sink.now) c.requires.below at.so_far due
 
 pub returns-in-Ok-None-read_held-clause-answer : goal.returns-in-Ok-None-read_held-clause-answer
 returns-in-Ok-None-read_held-clause-answer g c = λ stream first at.
-    let v = view_of c.args.reception.form stream in
+    let v = view_of c.args.reception.how stream in
     let limit = c.args.reception.limit in
     let f = c.args.start.now.frame in
     let mid = g.K.Sink.written c.args.sink.now in
@@ -47,7 +47,7 @@ returns-in-Ok-None-read_held-clause-answer g c = λ stream first at.
 
 pub returns-in-Err-read_held-clause-answer : goal.returns-in-Err-read_held-clause-answer
 returns-in-Err-read_held-clause-answer g c = λ stream first at.
-    let v = view_of c.args.reception.form stream in
+    let v = view_of c.args.reception.how stream in
     let limit = c.args.reception.limit in
     let f = c.args.start.now.frame in
     let mid = g.K.Sink.written c.args.sink.now in
@@ -60,7 +60,7 @@ returns-in-Err-read_held-clause-answer g c = λ stream first at.
 
 pub returns-clause-answer : goal.returns-clause-answer
 returns-clause-answer g c = λ stream first at.
-    let v = view_of c.args.reception.form stream in
+    let v = view_of c.args.reception.how stream in
     let limit = c.args.reception.limit in
     let f = c.args.start.now.frame in
     let mid = g.K.Sink.written c.args.sink.now in

@@ -28,7 +28,7 @@ loop-number-init g c = record {
   sink_room = refl;
   told = λ stream start h first place some stands so_far. record {
     kind = c.requires.receiver;
-    stands = subst (StandsFor c.args.receiver.now (view_of c.args.epoch.form stream).cell start) (let e : h ≡ c.args.next - start = omega (arith, place) in e) stands;
+    stands = subst (StandsFor c.args.receiver.now (view_of c.args.epoch.how stream).cell start) (let e : h ≡ c.args.next - start = omega (arith, place) in e) stands;
     from = omega (arith, place, some);
     so_far = so_far;
   };
@@ -37,18 +37,18 @@ loop-number-init g c = record {
 pub returns-then-last-eq0-clause-answer : goal.returns-then-last-eq0-clause-answer
 returns-then-last-eq0-clause-answer g c = λ stream start h first place some stands so_far.
     let going = c.loop-number.invariant.told stream start h first place some stands so_far in
-    ends-epoch (view_of c.args.epoch.form stream) (aim_of c.args.epoch.partial) stream c.args.epoch.limit start c.loop-number.number (c.args.epoch.mode, c.args.epoch.guard) c.loop-number.last _ first _ going.so_far (sym (ap (λ (p : TmccFields × Bool). p.0.countdown) c.last.view_is) ∙ c.if-last-eq0.true)
+    ends-epoch (view_of c.args.epoch.how stream) (aim_of c.args.epoch.partial) stream c.args.epoch.limit start c.loop-number.number (c.args.epoch.mode, c.args.epoch.guard) c.loop-number.last _ first _ going.so_far (sym (ap (λ (p : TmccFields × Bool). p.0.countdown) c.last.view_is) ∙ c.if-last-eq0.true)
 
 pub returns-clause-answer : goal.returns-clause-answer
 returns-clause-answer g c = λ stream start h first place some stands so_far.
     let going = c.loop-number.invariant.told stream start h first place some stands so_far in
     let end : c.loop-number.number ≡ c.args.epoch.limit = omega arith in
-    ends-at_limit (view_of c.args.epoch.form stream) (aim_of c.args.epoch.partial) stream c.args.epoch.limit start c.loop-number.number (c.args.epoch.mode, c.args.epoch.guard) c.loop-number.last _ first _ end going.so_far
+    ends-at_limit (view_of c.args.epoch.how stream) (aim_of c.args.epoch.partial) stream c.args.epoch.limit start c.loop-number.number (c.args.epoch.mode, c.args.epoch.guard) c.loop-number.last _ first _ end going.so_far
 
 pub returns-in-Ok-None-clause-answer : goal.returns-in-Ok-None-clause-answer
 returns-in-Ok-None-clause-answer g c = λ stream start h first place some stands so_far.
     let going = c.loop-number.invariant.told stream start h first place some stands so_far in
-    let P : Option (TmccFields × Bool) → Type 0 = λ o. TakeAnswer (view_of c.args.epoch.form stream) (aim_of c.args.epoch.partial) stream c.args.epoch.limit c.loop-number.number (c.args.epoch.mode, c.args.epoch.guard) (Some c.loop-number.last) c.next_frame.new.buffers.frame.items first (g.K.Sink.written c.loop-number.sink) (g.H.Shelf.left c.next_frame.new.shelf seats.In) (Ok o) in
+    let P : Option (TmccFields × Bool) → Type 0 = λ o. TakeAnswer (view_of c.args.epoch.how stream) (aim_of c.args.epoch.partial) stream c.args.epoch.limit c.loop-number.number (c.args.epoch.mode, c.args.epoch.guard) (Some c.loop-number.last) c.next_frame.new.buffers.frame.items first (g.K.Sink.written c.loop-number.sink) (g.H.Shelf.left c.next_frame.new.shelf seats.In) (Ok o) in
     let other = λ (e : c.loop-number.last.0.countdown ≡ 0). c.if-last-eq0.false (ap (λ (p : TmccFields × Bool). p.0.countdown) c.last.view_is ∙ e) in
     subst P c.in-Ok-None.field-0-is (c.in-Ok-None.ensures.answer stream start first (g.K.Sink.written c.loop-number.sink) going.so_far other)
 
@@ -63,7 +63,7 @@ not-first start f less = ne_eqb start f (λ e. omega (arith, less, e))
 
 pub returns-in-Err-write_received-clause-answer : goal.returns-in-Err-write_received-clause-answer
 returns-in-Err-write_received-clause-answer g c = λ stream start h first place some stands so_far.
-    let v = view_of c.args.epoch.form stream in
+    let v = view_of c.args.epoch.how stream in
     let said : Mode × Guard = (c.args.epoch.mode, c.args.epoch.guard) in
     let number = c.loop-number.number in
     let word = c.in-Ok-Some.word in
@@ -74,8 +74,8 @@ returns-in-Err-write_received-clause-answer g c = λ stream start h first place 
     let here : start + (number - start) ≡ number = omega (arith, from) in
     let P : Option (TmccFields × Bool) → Type 0 = λ o. TakeAnswer v (aim_of c.args.epoch.partial) stream c.args.epoch.limit number said (Some c.loop-number.last) frame first (g.K.Sink.written c.loop-number.sink) (g.H.Shelf.left c.next_frame.new.shelf seats.In) (Ok o) in
     let taken : P (Some word) = subst P c.in-Ok-Some.field-0-is (c.in-Ok-Some.ensures.answer stream start first (g.K.Sink.written c.loop-number.sink) going.so_far other) in
-    let Q : Option (TmccFields × Bool) → Type 0 = λ o. IfSome o (λ word. (stream : List ℕ) (start h : ℕ) (first now : Option (List ℕ)) → InEpoch (view_of c.args.epoch.form stream) (aim_of c.args.epoch.partial) stream c.args.epoch.limit start number said c.loop-number.last (g.H.Shelf.left c.loop-number.shelf seats.In) first now
-    → (c.loop-number.last.0.countdown ≡ 0 → ⊥) → start + h ≡ number → StandsFor c.loop-number.receiver (view_of c.args.epoch.form stream).cell start h → StandsFor c.next_frame.new.receiver (view_of c.args.epoch.form stream).cell start h) in
+    let Q : Option (TmccFields × Bool) → Type 0 = λ o. IfSome o (λ word. (stream : List ℕ) (start h : ℕ) (first now : Option (List ℕ)) → InEpoch (view_of c.args.epoch.how stream) (aim_of c.args.epoch.partial) stream c.args.epoch.limit start number said c.loop-number.last (g.H.Shelf.left c.loop-number.shelf seats.In) first now
+    → (c.loop-number.last.0.countdown ≡ 0 → ⊥) → start + h ≡ number → StandsFor c.loop-number.receiver (view_of c.args.epoch.how stream).cell start h → StandsFor c.next_frame.new.receiver (view_of c.args.epoch.how stream).cell start h) in
     let state : Q (Some word) = subst Q c.in-Ok-Some.field-0-is c.in-Ok-Some.ensures.state in
     let fed = state stream start (number - start) first (g.K.Sink.written c.loop-number.sink) going.so_far other here going.stands in
     let setting = next_setting v c.args.epoch.partial stream c.args.epoch.limit start number said c.loop-number.last word frame _ _ first _ going.so_far other taken in
@@ -99,7 +99,7 @@ loop-number-preserved g c = record {
   sink_kept = c.in-Ok.ensures.cause.kept ∙ c.loop-number.invariant.sink_kept;
   sink_room = c.in-Ok.ensures.sink_room ∙ c.loop-number.invariant.sink_room;
   told = λ stream start h first place some stands so_far. (
-      let v = view_of c.args.epoch.form stream in
+      let v = view_of c.args.epoch.how stream in
       let said : Mode × Guard = (c.args.epoch.mode, c.args.epoch.guard) in
       let number = c.loop-number.number in
       let word = c.in-Ok-Some.word in
@@ -110,8 +110,8 @@ loop-number-preserved g c = record {
       let here : start + (number - start) ≡ number = omega (arith, from) in
       let P : Option (TmccFields × Bool) → Type 0 = λ o. TakeAnswer v (aim_of c.args.epoch.partial) stream c.args.epoch.limit number said (Some c.loop-number.last) frame first (g.K.Sink.written c.loop-number.sink) (g.H.Shelf.left c.next_frame.new.shelf seats.In) (Ok o) in
       let taken : P (Some word) = subst P c.in-Ok-Some.field-0-is (c.in-Ok-Some.ensures.answer stream start first (g.K.Sink.written c.loop-number.sink) going.so_far other) in
-      let Q : Option (TmccFields × Bool) → Type 0 = λ o. IfSome o (λ word. (stream : List ℕ) (start h : ℕ) (first now : Option (List ℕ)) → InEpoch (view_of c.args.epoch.form stream) (aim_of c.args.epoch.partial) stream c.args.epoch.limit start number said c.loop-number.last (g.H.Shelf.left c.loop-number.shelf seats.In) first now
-      → (c.loop-number.last.0.countdown ≡ 0 → ⊥) → start + h ≡ number → StandsFor c.loop-number.receiver (view_of c.args.epoch.form stream).cell start h → StandsFor c.next_frame.new.receiver (view_of c.args.epoch.form stream).cell start h) in
+      let Q : Option (TmccFields × Bool) → Type 0 = λ o. IfSome o (λ word. (stream : List ℕ) (start h : ℕ) (first now : Option (List ℕ)) → InEpoch (view_of c.args.epoch.how stream) (aim_of c.args.epoch.partial) stream c.args.epoch.limit start number said c.loop-number.last (g.H.Shelf.left c.loop-number.shelf seats.In) first now
+      → (c.loop-number.last.0.countdown ≡ 0 → ⊥) → start + h ≡ number → StandsFor c.loop-number.receiver (view_of c.args.epoch.how stream).cell start h → StandsFor c.next_frame.new.receiver (view_of c.args.epoch.how stream).cell start h) in
       let state : Q (Some word) = subst Q c.in-Ok-Some.field-0-is c.in-Ok-Some.ensures.state in
       let fed = state stream start (number - start) first (g.K.Sink.written c.loop-number.sink) going.so_far other here going.stands in
       let setting = next_setting v c.args.epoch.partial stream c.args.epoch.limit start number said c.loop-number.last word frame _ _ first _ going.so_far other taken in
@@ -131,6 +131,6 @@ pub write_received-requires-clause-room : goal.write_received-requires-clause-ro
 write_received-requires-clause-room g c =
     let e = c.args.epoch in
     let s = c.loop-number.invariant.receiver.0 in
-    let fits = room-fits e.form e.partial e.mode e.guard s c.next_frame.new.receiver c.next_frame.new.buffers (c.in-Ok-Some.ensures.kept e.partial e.mode e.guard s c.loop-number.invariant.receiver.1) c.requires.can_have c.in-Ok-Some.ensures.room_kept in
+    let fits = room-fits e.how.form e.partial e.mode e.guard s c.next_frame.new.receiver c.next_frame.new.buffers (c.in-Ok-Some.ensures.kept e.partial e.mode e.guard s c.loop-number.invariant.receiver.1) c.requires.can_have c.in-Ok-Some.ensures.room_kept in
     let len = c.deref_mut.ensures.len in
     omega (arith, fits, len)

@@ -12,7 +12,7 @@ use Rattle.seg_receiver.proofs.epochs.receive_further.Given as goal
 
 abbrev pub invariant-loop-number : goal.invariant-loop-number
 invariant-loop-number g l = record {
-  room_for : HasRoom l.epoch.form l.buffers;
+  room_for : HasRoom l.epoch.how.form l.buffers;
   receiver : (s : Parameters) × IsReceiverOf l.epoch.partial l.epoch.mode l.epoch.guard s l.receiver;
   symbols : symbols_of l.receiver ≡ 0;
   is_open : g.H.Shelf.is_open l.shelf seats.In ≡ true;
@@ -20,7 +20,7 @@ invariant-loop-number g l = record {
   shelf_kept : g.H.Shelf.faults l.shelf ≡ g.H.Shelf.faults l.initial.shelf;
   sink_kept : g.K.Sink.faults l.sink ≡ g.K.Sink.faults l.initial.sink;
   sink_room : g.K.Sink.room l.sink ≡ g.K.Sink.room l.initial.sink;
-  told : (stream : List ℕ) (start h : ℕ) (first : Option (List ℕ)) → start + h ≡ l.next → 0 < h → StandsFor l.initial.receiver (view_of l.epoch.form stream).cell start h
-      → InEpoch (view_of l.epoch.form stream) (aim_of l.epoch.partial) stream l.epoch.limit start l.next (l.epoch.mode, l.epoch.guard) l.word (g.H.Shelf.left l.initial.shelf seats.In) first (g.K.Sink.written l.initial.sink)
-      → Going l.receiver (view_of l.epoch.form stream) l.epoch.partial stream l.epoch.limit start l.number (l.epoch.mode, l.epoch.guard) l.last (g.H.Shelf.left l.shelf seats.In) first (g.K.Sink.written l.sink);
+  told : (stream : List ℕ) (start h : ℕ) (first : Option (List ℕ)) → start + h ≡ l.next → 0 < h → StandsFor l.initial.receiver (view_of l.epoch.how stream).cell start h
+      → InEpoch (view_of l.epoch.how stream) (aim_of l.epoch.partial) stream l.epoch.limit start l.next (l.epoch.mode, l.epoch.guard) l.word (g.H.Shelf.left l.initial.shelf seats.In) first (g.K.Sink.written l.initial.sink)
+      → Going l.receiver (view_of l.epoch.how stream) l.epoch.partial stream l.epoch.limit start l.number (l.epoch.mode, l.epoch.guard) l.last (g.H.Shelf.left l.shelf seats.In) first (g.K.Sink.written l.sink);
 }

@@ -18,14 +18,14 @@ use Rattle.seg_receiver.proofs.epochs.receive_held.Goals as goal
 
 pub returns-in-Err-clause-answer : goal.returns-in-Err-clause-answer
 returns-in-Err-clause-answer g c = λ stream last known first at taken.
-    let v = view_of c.args.epoch.form stream in
+    let v = view_of c.args.epoch.how stream in
     let said : Mode × Guard = (c.args.epoch.mode, c.args.epoch.guard) in
     let number = c.args.number in
     let cell = v.cell in
     let word = c.args.word.now in
     let frame = c.args.buffers.now.frame.items in
     let here : number + 0 ≡ number = omega arith in
-    let held = subst (λ f. ShowsFrame c.args.epoch.mode cell f frame) (sym here) (shows-front c.args.epoch.mode cell number (drop (v.starts number + v.head) stream) frame taken.frame_is (subst (λ m. ShowsFrame m cell number (drop (v.starts number + v.head) stream)) taken.mode ((laid c.args.epoch.form stream).shows number))) in
+    let held = subst (λ f. ShowsFrame c.args.epoch.mode cell f frame) (sym here) (shows-front c.args.epoch.mode cell number (drop (v.starts number + v.head) stream) frame taken.frame_is (subst (λ m. ShowsFrame m cell number (drop (v.starts number + v.head) stream)) taken.mode ((laid c.args.epoch.how.fix c.args.epoch.how.form stream).shows number))) in
     let shows = subst (ShowsFrame c.args.epoch.mode cell (number + 0)) (sym c.deref.ensures.value) held in
     let fed = c.feed_held.ensures.state cell number 0 (c.in-Ok.ensures.state cell number) shows in
     let opened = subst (λ u. IsReceiverOf c.args.epoch.partial said.0 said.1 u c.in-Ok.receiver) (ap (λ (i : TmccFields). i.now) c.info.view_is) c.in-Ok.ensures.receiver in
@@ -37,14 +37,14 @@ returns-in-Err-clause-answer g c = λ stream last known first at taken.
 
 pub returns-clause-answer : goal.returns-clause-answer
 returns-clause-answer g c = λ stream last known first at taken.
-    let v = view_of c.args.epoch.form stream in
+    let v = view_of c.args.epoch.how stream in
     let said : Mode × Guard = (c.args.epoch.mode, c.args.epoch.guard) in
     let number = c.args.number in
     let cell = v.cell in
     let word = c.args.word.now in
     let frame = c.args.buffers.now.frame.items in
     let here : number + 0 ≡ number = omega arith in
-    let held = subst (λ f. ShowsFrame c.args.epoch.mode cell f frame) (sym here) (shows-front c.args.epoch.mode cell number (drop (v.starts number + v.head) stream) frame taken.frame_is (subst (λ m. ShowsFrame m cell number (drop (v.starts number + v.head) stream)) taken.mode ((laid c.args.epoch.form stream).shows number))) in
+    let held = subst (λ f. ShowsFrame c.args.epoch.mode cell f frame) (sym here) (shows-front c.args.epoch.mode cell number (drop (v.starts number + v.head) stream) frame taken.frame_is (subst (λ m. ShowsFrame m cell number (drop (v.starts number + v.head) stream)) taken.mode ((laid c.args.epoch.how.fix c.args.epoch.how.form stream).shows number))) in
     let shows = subst (ShowsFrame c.args.epoch.mode cell (number + 0)) (sym c.deref.ensures.value) held in
     let fed = c.feed_held.ensures.state cell number 0 (c.in-Ok.ensures.state cell number) shows in
     let opened = subst (λ u. IsReceiverOf c.args.epoch.partial said.0 said.1 u c.in-Ok.receiver) (ap (λ (i : TmccFields). i.now) c.info.view_is) c.in-Ok.ensures.receiver in
@@ -58,7 +58,7 @@ returns-clause-answer g c = λ stream last known first at taken.
 pub write_received-requires-clause-room : goal.write_received-requires-clause-room
 write_received-requires-clause-room g c =
     let e = c.args.epoch in
-    let fits = room-fits e.form e.partial e.mode e.guard _ c.feed_held.new.receiver c.args.buffers.now (c.feed_held.ensures.kept e.partial e.mode e.guard _ c.in-Ok.ensures.receiver) c.requires.can_have c.requires.room in
+    let fits = room-fits e.how.form e.partial e.mode e.guard _ c.feed_held.new.receiver c.args.buffers.now (c.feed_held.ensures.kept e.partial e.mode e.guard _ c.in-Ok.ensures.receiver) c.requires.can_have c.requires.room in
     let len = c.deref_mut-2.ensures.len in
     omega (arith, fits, len)
 
@@ -67,12 +67,12 @@ feed_held-requires-clause-mode g c = mode-is c.args.epoch.partial c.args.epoch.m
 
 pub feed_held-requires-clause-size : goal.feed_held-requires-clause-size
 feed_held-requires-clause-size g c =
-    let fits = frame-fits c.args.epoch.form c.args.epoch.mode c.args.epoch.guard c.args.buffers.now c.requires.can_have c.requires.room in
+    let fits = frame-fits c.args.epoch.how.form c.args.epoch.mode c.args.epoch.guard c.args.buffers.now c.requires.can_have c.requires.room in
     let len = c.deref.ensures.len in
     omega (arith, fits, len)
 
 pub feed_held-requires-clause-room : goal.feed_held-requires-clause-room
 feed_held-requires-clause-room g c =
-    let fits = cells-fit_of c.args.epoch.form c.args.epoch.mode c.args.epoch.guard c.in-Ok.receiver c.args.buffers.now c.requires.can_have c.requires.room in
+    let fits = cells-fit_of c.args.epoch.how.form c.args.epoch.mode c.args.epoch.guard c.in-Ok.receiver c.args.buffers.now c.requires.can_have c.requires.room in
     let len = c.deref_mut.ensures.len in
     omega (arith, fits, len)

@@ -18,12 +18,12 @@ loop-start-init g c = record {
   shelf_kept = refl;
   sink_kept = refl;
   sink_room = refl;
-  told = λ stream told. at_first (view_of c.args.reception.form stream) stream (aim_of c.args.reception.partial) c.args.reception.limit _ _ (laid c.args.reception.form stream) told;
+  told = λ stream told. at_first (view_of c.args.reception.how stream) stream (aim_of c.args.reception.partial) c.args.reception.limit _ _ (laid c.args.reception.how.fix c.args.reception.how.form stream) told;
 }
 
 pub returns-in-Ok-Input-clause-answer : goal.returns-in-Ok-Input-clause-answer
 returns-in-Ok-Input-clause-answer g c = λ stream told.
-    let P : EpochEnd → Type 0 = λ e. EpochAnswer (view_of c.args.reception.form stream) (aim_of c.args.reception.partial) stream c.args.reception.limit (g.K.Sink.written c.args.sink.now) (g.K.Sink.written c.receive_epoch-end.new.sink) (g.H.Shelf.left c.receive_epoch-end.new.shelf seats.In) (Ok e) in
+    let P : EpochEnd → Type 0 = λ e. EpochAnswer (view_of c.args.reception.how stream) (aim_of c.args.reception.partial) stream c.args.reception.limit (g.K.Sink.written c.args.sink.now) (g.K.Sink.written c.receive_epoch-end.new.sink) (g.H.Shelf.left c.receive_epoch-end.new.shelf seats.In) (Ok e) in
     subst P c.in-Ok-Input.field-0-is (c.in-Ok-Input.ensures.answer stream (g.K.Sink.written c.args.sink.now) (c.loop-start.invariant.told stream told))
 
 pub loop-start-preserved : goal.loop-start-preserved
@@ -39,7 +39,7 @@ loop-start-preserved g c =
       sink_kept = c.in-Ok-Next.ensures.cause.1 ∙ c.loop-start.invariant.sink_kept;
       sink_room = c.in-Ok-Next.ensures.sink_room ∙ c.loop-start.invariant.sink_room;
       told = λ stream told. (
-          let P : EpochEnd → Type 0 = λ e. EpochAnswer (view_of c.args.reception.form stream) (aim_of c.args.reception.partial) stream c.args.reception.limit (g.K.Sink.written c.args.sink.now) (g.K.Sink.written c.receive_epoch-end.new.sink) (g.H.Shelf.left c.receive_epoch-end.new.shelf seats.In) (Ok e) in
+          let P : EpochEnd → Type 0 = λ e. EpochAnswer (view_of c.args.reception.how stream) (aim_of c.args.reception.partial) stream c.args.reception.limit (g.K.Sink.written c.args.sink.now) (g.K.Sink.written c.receive_epoch-end.new.sink) (g.H.Shelf.left c.receive_epoch-end.new.shelf seats.In) (Ok e) in
           subst P c.in-Ok-Next.field-0-is (c.in-Ok-Next.ensures.answer stream (g.K.Sink.written c.args.sink.now) (c.loop-start.invariant.told stream told)));
     }
 
@@ -53,7 +53,7 @@ loop-start-smaller g c =
 
 pub returns-clause-answer : goal.returns-clause-answer
 returns-clause-answer g c = λ stream told.
-    let form = c.args.reception.form in
+    let how = c.args.reception.how in
     let aim = aim_of c.args.reception.partial in
     let end : c.loop-start.start.frame ≡ c.args.reception.limit = (let most = c.loop-start.invariant.most in omega (arith, most)) in
-    c.end_at_limit.ensures.answer form aim stream _ _ _ (progress-at_limit (view_of form stream) aim stream c.args.reception.limit c.loop-start.start.frame c.loop-start.start.before _ _ _ end (c.loop-start.invariant.told stream told))
+    c.end_at_limit.ensures.answer how aim stream _ _ _ (progress-at_limit (view_of how stream) aim stream c.args.reception.limit c.loop-start.start.frame c.loop-start.start.before _ _ _ end (c.loop-start.invariant.told stream told))

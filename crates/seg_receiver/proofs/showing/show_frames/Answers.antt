@@ -9,7 +9,7 @@ use Rattle.seg_receiver.specs.CellStream.{view_of}
 use Rattle.seg_receiver.specs.FrameLines.{word_line}
 use Rattle.seg_receiver.specs.EpochAnswers.{Progress, HeadAnswer, TakeAnswer}
 use Rattle.seg_receiver.proofs.EpochProgress.{wrote_all, wrote_some}
-use Rattle.seg_receiver.proofs.ListingProgress.{Listed, listed-none, listed-more, line-failed}
+use Rattle.seg_receiver.proofs.ListingProgress.{Listed, restored-is, listed-none, listed-more, line-failed}
 use Rattle.seg_receiver.proofs.ViewLaws.{laid}
 use Rattle.seg_receiver.proofs.showing.show_frames.Goals as goal
 
@@ -21,12 +21,12 @@ loop-number-init g c = record {
   shelf_kept = refl;
   sink_kept = refl;
   sink_room = refl;
-  told = λ stream told. listed-none (view_of c.args.form stream) stream c.args.limit _ _ (laid c.args.form stream) told;
+  told = λ stream told. listed-none (view_of c.args.how stream) stream c.args.limit _ _ (laid c.args.how.fix c.args.how.form stream) told;
 }
 
 pub returns-in-Ok-None-clause-answer : goal.returns-in-Ok-None-clause-answer
 returns-in-Ok-None-clause-answer g c = λ stream told.
-    let v = view_of c.args.form stream in
+    let v = view_of c.args.how stream in
     let listed = c.loop-number.invariant.told stream told in
     let first = g.K.Sink.written c.args.sink.now in
     let mid = g.K.Sink.written c.loop-number.sink in
@@ -40,7 +40,7 @@ returns-in-Err-clause-answer g c = λ stream told.
 
 pub returns-in-Ok-None-read_held-clause-answer : goal.returns-in-Ok-None-read_held-clause-answer
 returns-in-Ok-None-read_held-clause-answer g c = λ stream told.
-    let v = view_of c.args.form stream in
+    let v = view_of c.args.how stream in
     let f = c.loop-number.number in
     let limit = c.args.limit in
     let listed = c.loop-number.invariant.told stream told in
@@ -53,7 +53,7 @@ returns-in-Ok-None-read_held-clause-answer g c = λ stream told.
 
 pub returns-in-Err-read_held-clause-answer : goal.returns-in-Err-read_held-clause-answer
 returns-in-Err-read_held-clause-answer g c = λ stream told.
-    let v = view_of c.args.form stream in
+    let v = view_of c.args.how stream in
     let f = c.loop-number.number in
     let limit = c.args.limit in
     let listed = c.loop-number.invariant.told stream told in
@@ -65,7 +65,7 @@ returns-in-Err-read_held-clause-answer g c = λ stream told.
 
 pub returns-in-Err-write_whole-clause-answer : goal.returns-in-Err-write_whole-clause-answer
 returns-in-Err-write_whole-clause-answer g c = λ stream told.
-    let v = view_of c.args.form stream in
+    let v = view_of c.args.how stream in
     let f = c.loop-number.number in
     let limit = c.args.limit in
     let said = c.in-Ok-Some.said in
@@ -77,10 +77,11 @@ returns-in-Err-write_whole-clause-answer g c = λ stream told.
     let head : P (Some said) = subst P c.in-Ok-Some.field-0-is (c.in-Ok-Some.ensures.answer Lines stream limit c.loop-number.last first mid c.loop-number-test.true listed.so_far listed.due_is) in
     let Q : Option (TmccFields × Bool) → Type 0 = λ o. TakeAnswer v Lines stream limit f said c.loop-number.last c.read_held.new.buffer first mid (g.H.Shelf.left c.read_held.new.shelf seats.In) (Ok o) in
     let taken : Q (Some word) = subst Q c.in-Ok-Some-read_held.field-0-is (c.in-Ok-Some-read_held.ensures.answer stream limit _ first mid c.loop-number-test.true listed.so_far head) in
-    let is : c.as_bytes.result.now ≡ word_line said.0 f (Ok word) = c.as_bytes.ensures.value ∙ c.deref.ensures.0 ∙ c.line_of.ensures in
+    let changed = c.restored_in.result in
+    let is : c.as_bytes.result.now ≡ word_line said.0 f changed (Ok word) = c.as_bytes.ensures.value ∙ c.deref.ensures.0 ∙ c.line_of.ensures in
     let failed = c.in-Err-write_whole.ensures.some in
-    let part = wrote_some _ (word_line said.0 f (Ok word)) failed.0 mid _ is failed.1 failed.2 in
-    line-failed v stream limit f failed.0 said c.loop-number.due c.loop-number.last word c.read_held.new.buffer _ _ first mid _ listed taken part.0 part.1
+    let part = wrote_some _ (word_line said.0 f changed (Ok word)) failed.0 mid _ is failed.1 failed.2 in
+    line-failed v stream limit f failed.0 said c.loop-number.due c.loop-number.last word c.read_held.new.buffer changed _ _ first mid _ listed taken (c.restored_in.ensures ∙ restored-is c.args.how stream limit f said c.loop-number.last word c.read_held.new.buffer _ taken) part.0 part.1
 
 pub loop-number-preserved : goal.loop-number-preserved
 loop-number-preserved g c = record {
@@ -91,7 +92,7 @@ loop-number-preserved g c = record {
   sink_kept = c.in-Ok.ensures.cause.kept ∙ c.loop-number.invariant.sink_kept;
   sink_room = c.in-Ok.ensures.room ∙ c.loop-number.invariant.sink_room;
   told = λ stream told. (
-      let v = view_of c.args.form stream in
+      let v = view_of c.args.how stream in
       let f = c.loop-number.number in
       let limit = c.args.limit in
       let said = c.in-Ok-Some.said in
@@ -105,18 +106,19 @@ loop-number-preserved g c = record {
       let head : P (Some said) = subst P c.in-Ok-Some.field-0-is (c.in-Ok-Some.ensures.answer Lines stream limit c.loop-number.last first mid c.loop-number-test.true listed.so_far listed.due_is) in
       let Q : Option (TmccFields × Bool) → Type 0 = λ o. TakeAnswer v Lines stream limit f said c.loop-number.last c.read_held.new.buffer first mid left (Ok o) in
       let taken : Q (Some word) = subst Q c.in-Ok-Some-read_held.field-0-is (c.in-Ok-Some-read_held.ensures.answer stream limit _ first mid c.loop-number-test.true listed.so_far head) in
-      let is : c.as_bytes.result.now ≡ word_line said.0 f (Ok word) = c.as_bytes.ensures.value ∙ c.deref.ensures.0 ∙ c.line_of.ensures in
-      let wrote = wrote_all _ (word_line said.0 f (Ok word)) mid after is c.in-Ok.ensures.ok in
+      let changed = c.restored_in.result in
+      let is : c.as_bytes.result.now ≡ word_line said.0 f changed (Ok word) = c.as_bytes.ensures.value ∙ c.deref.ensures.0 ∙ c.line_of.ensures in
+      let wrote = wrote_all _ (word_line said.0 f changed (Ok word)) mid after is c.in-Ok.ensures.ok in
       subst (λ due. Listed v stream limit (f + 1) due (Some word) left first after) (sym c.due_behind-due.ensures)
-      (listed-more v stream limit f said c.loop-number.due c.loop-number.last word c.read_held.new.buffer _ left first mid after listed taken wrote));
+      (listed-more v stream limit f said c.loop-number.due c.loop-number.last word c.read_held.new.buffer changed _ left first mid after listed taken (c.restored_in.ensures ∙ restored-is c.args.how stream limit f said c.loop-number.last word c.read_held.new.buffer _ taken) wrote));
 }
 
 pub returns-clause-answer : goal.returns-clause-answer
 returns-clause-answer g c = λ stream told.
-    let v = view_of c.args.form stream in
+    let v = view_of c.args.how stream in
     let listed = c.loop-number.invariant.told stream told in
     let first = g.K.Sink.written c.args.sink.now in
     let now = g.K.Sink.written c.loop-number.sink in
     let end : c.loop-number.number ≡ c.args.limit = omega arith in
     let so_far = subst (λ n. Progress v Lines stream c.args.limit n c.loop-number.last (g.H.Shelf.left c.loop-number.shelf seats.In) first now) end listed.so_far in
-    c.end_at_limit.ensures.answer c.args.form Lines stream c.loop-number.last first now so_far
+    c.end_at_limit.ensures.answer c.args.how Lines stream c.loop-number.last first now so_far
