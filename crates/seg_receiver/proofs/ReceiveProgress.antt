@@ -24,7 +24,7 @@ use Rattle.seg_receiver.specs.ReceiveAnswers.{given_frame, receive_command}
 use Rattle.seg_receiver.specs.FrameReading.{Came, Stopped}
 use Rattle.seg_receiver.specs.EpochAnswers.{FrameRefused, HeadTaken, Progress, Taken}
 use Rattle.seg_receiver.proofs.SymbolPlaces.{word-frame}
-use Rattle.seg_receiver.proofs.ViewLaws.{IsLaid, starts-le}
+use Rattle.seg_receiver.proofs.ViewLaws.{IsLaid, came-part, starts-le}
 
 first_some-one : (x : Option ReceiveFault) → first_some (x ∷ []) ≡ x
 first_some-one None = refl

@@ -78,7 +78,7 @@ returns-in-Err-write_whole-clause-answer g c = λ stream told.
     let Q : Option (TmccFields × Bool) → Type 0 = λ o. TakeAnswer v Lines stream limit f said c.loop-number.last c.read_held.new.buffer first mid (g.H.Shelf.left c.read_held.new.shelf seats.In) (Ok o) in
     let taken : Q (Some word) = subst Q c.in-Ok-Some-read_held.field-0-is (c.in-Ok-Some-read_held.ensures.answer stream limit _ first mid c.loop-number-test.true listed.so_far head) in
     let changed = c.restored_in.result in
-    let is : c.as_bytes.result.now ≡ word_line said.0 f changed (Ok word) = c.as_bytes.ensures.value ∙ c.deref.ensures.0 ∙ c.line_of.ensures in
+    let is : c.as_bytes.result.now ≡ word_line said.0 f changed (Ok word) = c.as_bytes.ensures.value ∙ c.deref.ensures.0 ∙ c.line_of-line.ensures in
     let failed = c.in-Err-write_whole.ensures.some in
     let part = wrote_some _ (word_line said.0 f changed (Ok word)) failed.0 mid _ is failed.1 failed.2 in
     line-failed v stream limit f failed.0 said c.loop-number.due c.loop-number.last word c.read_held.new.buffer changed _ _ first mid _ listed taken (c.restored_in.ensures ∙ restored-is c.args.how stream limit f said c.loop-number.last word c.read_held.new.buffer _ taken) part.0 part.1
@@ -107,7 +107,7 @@ loop-number-preserved g c = record {
       let Q : Option (TmccFields × Bool) → Type 0 = λ o. TakeAnswer v Lines stream limit f said c.loop-number.last c.read_held.new.buffer first mid left (Ok o) in
       let taken : Q (Some word) = subst Q c.in-Ok-Some-read_held.field-0-is (c.in-Ok-Some-read_held.ensures.answer stream limit _ first mid c.loop-number-test.true listed.so_far head) in
       let changed = c.restored_in.result in
-      let is : c.as_bytes.result.now ≡ word_line said.0 f changed (Ok word) = c.as_bytes.ensures.value ∙ c.deref.ensures.0 ∙ c.line_of.ensures in
+      let is : c.as_bytes.result.now ≡ word_line said.0 f changed (Ok word) = c.as_bytes.ensures.value ∙ c.deref.ensures.0 ∙ c.line_of-line.ensures in
       let wrote = wrote_all _ (word_line said.0 f changed (Ok word)) mid after is c.in-Ok.ensures.ok in
       subst (λ due. Listed v stream limit (f + 1) due (Some word) left first after) (sym c.due_behind-due.ensures)
       (listed-more v stream limit f said c.loop-number.due c.loop-number.last word c.read_held.new.buffer changed _ left first mid after listed taken (c.restored_in.ensures ∙ restored-is c.args.how stream limit f said c.loop-number.last word c.read_held.new.buffer _ taken) wrote));
