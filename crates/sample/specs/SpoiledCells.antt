@@ -1,5 +1,5 @@
 -- The cells of a plan with some of them spoiled, and the view of them.
-use Rattle.std.specs.Prelude.{◌≡◌, ℕ, ◌+◌, ◌-◌, ◌*◌, ◌%◌, ◌==◌, Bool, ◌&&◌, ◌||◌, neg_ℤ, None, if◌then◌else◌}
+use Rattle.std.specs.Prelude.{◌≡◌, ℕ, ◌+◌, ◌-◌, ◌*◌, ◌%◌, ◌==◌, Bool, ◌&&◌, ◌||◌, neg_ℤ, None, false, if◌then◌else◌}
 use Rattle.std.specs.Int.{w8, int_wrapping_neg}
 use Rattle.isdbt_base.specs.Numbers.{frame_symbols}
 use Rattle.isdbt_base.specs.Plans.{Schedule, at_frame}

@@ -9,8 +9,7 @@
 //! with at most eight wrong places a wrong bit has at least ten odd checks, and a right one at most eight: the majority tells
 //! them apart. Places behind the last bit are 0.
 //!
-//! No call takes memory, and none fails for any 204 bits. No command of the program uses this crate yet: it is for users of
-//! the library.
+//! No call takes memory, and none fails for any 204 bits.
 #![tactic(auto)]
 
 mod answer;
