@@ -151,7 +151,7 @@ found_near how p input m None plan carries bytes passed found =
     let same : product (sent_frame writing p frames) m ≡ product (coded_frame writing p input) m = product-same (sent_frame writing p frames) (coded_frame writing p input) m
     (λ f less. absurd (omega (arith, less, empty.0))) in
     (packets, subst (λ cells. IsNear (view_of how cells) p frames m) same near)
-found_near how p input m (Some head) plan carries bytes passed found = coded-near form p input m frame_limit head plan bytes passed carries found
+found_near how p input m (Some head) plan carries bytes passed found = coded-near how p input m frame_limit head plan bytes passed carries found
 
 pub wrote_near : (how : Writing) (p : Schedule) (input : List ℕ) (m : ℕ) (before after left : Option (List ℕ)) → IsPlan p → (how.v2 ≡ false → KeepsMode p.first p.switches) → IsBytes input
     → Finished (code_command how p input frame_limit) m before after left → WroteNear how p input m before after

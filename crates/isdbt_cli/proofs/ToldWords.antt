@@ -56,11 +56,11 @@ only_told word wanted told line free e = (told, [], free, refl, e ∙ sym (appen
 -- a line of them doesn't begin with another word
 other_first : (word : Word) (words : List (Word × Bool)) (line rest : List Word) → IsNew word words → SomeOf words line → line ≡ word ∷ rest → ⊥
 other_first word [] line rest new s e = (let bad = sym s ∙ e in cc)
-other_first word (first ∷ more) line rest new s e = go s.0 s.1 s.3 s.4
+other_first word (first ∷ more) line rest new s e = go s.0 s.4 (λ is. other_first word more s.1 rest new.1 s.3 is)
   where
-    go : (told : Bool) (behind : List Word) → SomeOf more behind → line ≡ told_word first.0 told ++ behind → ⊥
-    go true behind some is = new.0 (same_head (sym e ∙ is))
-    go false behind some is = other_first word more behind rest new.1 some (sym is ∙ e)
+    go : (told : Bool) → line ≡ told_word first.0 told ++ s.1 → (s.1 ≡ word ∷ rest → ⊥) → ⊥
+    go true is behind = new.0 (same_head (sym e ∙ is))
+    go false is behind = behind (sym is ∙ e)
 
 -- what such a line begins with, cut in a place
 begins : (front rest tail more : List Word) (word : Word) → front ++ tail ≡ word ∷ more → take 1 tail ≡ take 1 rest → take 1 (front ++ rest) ≡ word ∷ []

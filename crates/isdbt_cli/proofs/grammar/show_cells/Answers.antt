@@ -35,14 +35,14 @@ returns-in_err-end c =
     let reads = reads_both (form_words form) (input_words n) c.args.words.now c.form.new.words c.name.new.words (reads_form form c.args.words.now c.form.new.words c.in_ok-form.ensures.ok) c.in_ok-name.ensures.ok in
     let end = c.in_err-end.ensures.err in
     rw (p.1, p.2) (stuck_tail (FollowsBoth (codes "show") (codes "cells")) Fixing shown_lines form n c.in_ok-name.ensures.name c.args.words.now c.name.new.words c.in_err-end.field-0.0 reads
-    (stuck_after (codes "fix") false [] c.told_word.result c.name.new.words c.told_word.new.words c.in_err-end.field-0.0 tt c.told_word.ensures (λ e. refl) (left_behind c.told_word.new.words c.in_err-end.field-0.0 end.0 end.1)))
+    (stuck_after (codes "fix") false [] c.told_word-fix.result c.name.new.words c.told_word-fix.new.words c.in_err-end.field-0.0 tt c.told_word-fix.ensures (λ e. refl) (left_behind c.told_word-fix.new.words c.in_err-end.field-0.0 end.0 end.1)))
 
 pub returns : goal.returns
 returns c =
     let form = c.in_ok-form.form in
     let n = c.in_ok-name.name.now in
     let reads = reads_both (form_words form) (input_words n) c.args.words.now c.form.new.words c.name.new.words (reads_form form c.args.words.now c.form.new.words c.in_ok-form.ensures.ok) c.in_ok-name.ensures.ok in
-    let fix = c.told_word.result in
+    let fix = c.told_word-fix.result in
     let how : Reading = record { form = form; fix = fix } in
-    let behind = read_if (codes "fix") fix c.name.new.words c.told_word.new.words c.told_word.ensures ∙ ap (λ (ws : List Word). fix_words fix ++ ws) c.in_ok-end.ensures.ok ∙ append-nil (fix_words fix) in
+    let behind = read_if (codes "fix") fix c.name.new.words c.told_word-fix.new.words c.told_word-fix.ensures ∙ ap (λ (ws : List Word). fix_words fix ++ ws) c.in_ok-end.ensures.ok ∙ append-nil (fix_words fix) in
     spells_cells how n c.args.words.now.words c.in_ok-name.ensures.name (reads.split ∙ ap (λ (ws : List Word). (form_words form ++ input_words n) ++ ws) behind)
