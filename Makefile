@@ -27,6 +27,7 @@ install: all
 	sed -e '/^# From here on/d' -e '/^# ----$$/,/^# ----$$/d' -e 's|^program=.*|program=$$top/../libexec/isdbt/isdbt|' isdbt >$(bin)/isdbt
 	chmod 755 $(bin)/isdbt
 	gzip -9n <docs/isdbt.1 >$(man)/isdbt.1.gz
+	chmod 644 $(man)/isdbt.1.gz
 	install -m 644 completion/isdbt.bash $(completions)/isdbt
 
 uninstall:
