@@ -32,4 +32,4 @@ install: all
 
 uninstall:
 	rm -f $(bin)/isdbt $(libexec)/isdbt $(man)/isdbt.1.gz $(completions)/isdbt
-	if [ -d $(libexec) ]; then rmdir $(libexec); fi
+	if [ -d $(libexec) ]; then rmdir --ignore-fail-on-non-empty $(libexec); fi
