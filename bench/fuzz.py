@@ -260,6 +260,12 @@ def spoil_information(chance, data, stream):
             data[at] ^= 1 << chance.randrange(8)
 
 
+def clear_heads(chance, data, stream):
+    """The frame head flag of each packet, from some packet on or of all."""
+    for at in range(PACKET + BROADCAST * chance.choice((0, 0, 1)), len(data), BROADCAST):
+        data[at] &= ~2
+
+
 def spoil_head(chance, data, stream):
     at = chance.choice([0, *stream.ends[:-1]]) + chance.randrange(8)
     if at < len(data):
@@ -353,7 +359,7 @@ def burst(chance, data, stream):
 COMMON = [flip_bytes, spoil_starts, cut_short, cut_out, repeat, move, insert_noise, burst]
 SPOILINGS = {
     "ts": COMMON,
-    "bts": COMMON + [spoil_information] * 4,
+    "bts": COMMON + [spoil_information] * 4 + [clear_heads],
     "cells": COMMON + [turn_bits, change_word] * 3,
     "headed": COMMON + [turn_bits, change_word, spoil_head] * 3,
 }
@@ -461,8 +467,10 @@ def reading_words(chance, stream):
 
 def one_run(runner, streams, chance):
     """The words, status and fault of a run."""
-    stream = chance.choice(streams)
-    if isinstance(stream, list):
+    stream = chance.choice(streams) if chance.random() < 0.99 else None
+    if stream is None:
+        words, given = [b"sample", str(chance.randrange(65536)).encode()], b""
+    elif isinstance(stream, list):
         words, given = remux_run(chance, stream)
         stream = None
     else:
