@@ -32,11 +32,18 @@ programme() {
         { head -c 188; now first_in; cat; }
 }
 
-# A burst of a whole frame would fill the buffers of the datagrams, so its bytes are sent somewhat faster than they come, one
-# behind another. The reader ends two seconds behind the last datagram.
+# A burst of a whole frame would fill the buffers of the datagrams, so each twentieth part of it has a pause behind it; and what
+# has come is buffered for `receive`. No datagram is sent again: where one is lost the frames don't stand where they should, and
+# `receive` ends with its line. The reader ends two seconds behind the last datagram.
+paced() {
+    while head -c $((cells / 20)) >"$folder/part" && [ -s "$folder/part" ]; do
+        cat "$folder/part"
+        sleep 0.005
+    done
+}
 sent_on() {
     if [ "$way" = udp ]; then
-        pv -q -L $((cells * 21 / 20 * 1000000 / frame)) | socat -u -b 1316 - UDP-SENDTO:127.0.0.1:$port
+        paced | socat -u -b 1316 - UDP-SENDTO:127.0.0.1:$port
     else
         cat
     fi
@@ -52,7 +59,7 @@ receive() {
 
 echo "$way: $rate bits a second, $packets packets in each frame of $frame microseconds"
 if [ "$way" = udp ]; then
-    socat -u -T 2 UDP-RECV:$port,bind=127.0.0.1,rcvbuf=8000000 - | receive &
+    socat -u -T 2 UDP-RECV:$port,bind=127.0.0.1,rcvbuf=8000000 - | pv -q -C -B 16m | receive &
     sleep 0.5
     send
     wait $!
