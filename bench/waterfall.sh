@@ -19,9 +19,8 @@ python3 "$top/bench/waterfall.py" "$top/crates/isdbt_cli/out/isdbt_cli" "$frames
 command -v gnuplot >/dev/null || { echo "waterfall.sh: no picture: there is no gnuplot"; exit 0; }
 
 gnuplot <<END_OF_PLOT
-set terminal pngcairo size 760,380 font "sans,9"
+set terminal pngcairo size 620,320 font "sans,8"
 set output "$picture"
-set grid lc rgb "#dddddd"
 set xlabel "C/N in dB"
 set ylabel "marked packets in 100"
 set xrange [2:23]

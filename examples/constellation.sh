@@ -35,7 +35,6 @@ set output "$picture"
 set multiplot layout 2,3
 set size square
 set key off
-set grid lc rgb "#dddddd"
 set xrange [-10:10]
 set yrange [-10:10]
 set xtics -7,2,7
