@@ -19,7 +19,7 @@ python3 "$top/bench/waterfall.py" "$top/crates/isdbt_cli/out/isdbt_cli" "$frames
 command -v gnuplot >/dev/null || { echo "waterfall.sh: no picture: there is no gnuplot"; exit 0; }
 
 gnuplot <<END_OF_PLOT
-set terminal pngcairo size 620,320 font "sans,8"
+set terminal pngcairo size 580,300 font "sans,8"
 set output "$picture"
 set xlabel "C/N in dB"
 set ylabel "marked packets in 100"
