@@ -2,10 +2,12 @@
 # Runs the built program over spoiled streams and spoiled words, and looks at what it answers. Streams: packets, broadcast
 # packets and cells in both versions, a few frames each, with bytes and bits changed, parts cut out, repeated or moved, heads
 # changed, and TMCC words with wrong bits or with other right contents. Words: those of right commands, dropped, repeated, moved
-# or changed. In each run the status must be one of the table's, with just its line on standard error; what was written must be
-# whole frames or lines, as many as the line says; and the frames before the first changed byte must be those of the right stream.
+# or changed. In each run the status must be one of the table's, with just its line on standard error; and what was written must
+# be whole frames or lines, as many as the line says; with `partial` whole packets. Where the words are right, `code`, `receive`
+# in full and both `show` must have written the frames before the first changed byte as of the right stream.
 # Prints how often each command ended with which status, and ends with 1 where a run answered otherwise; it names that run.
-# A run depends on SEED and its number alone. Runs FIRST to FIRST + RUNS - 1 are made, so that shares can run side by side.
+# A run depends on SEED, its number and the length of the temporary folder's name alone. Runs FIRST to FIRST + RUNS - 1 are made,
+# so that shares can run side by side.
 # Run by hand; no gate runs it; it wants python3.
 #
 #     bench/fuzz.sh [RUNS, 1000 if left out [SEED, 1 [FIRST, 0]]]
